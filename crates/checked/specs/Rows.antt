@@ -1,0 +1,54 @@
+-- The P rows of "Checked examples", as one table: what each says of the definitions that the calls promise. Definitions only; `proofs/Rows.antt` has the one theorem.
+use mathlib.Core.Path.{_≡_}
+use mathlib.Core.Bool.{Bool, true}
+use mathlib.Core.List.{List, [], _∷_}
+use lib.Ieee.{Float, neg, lt}
+use Rattle.float.specs.Numbers.{f64, f0, f½, f1}
+use Rattle.half.specs.Power.{half, f1022}
+use Rattle.half.specs.Logistic.{decodeProbability}
+
+pub data Row : Type 0 where
+  -- half(t) = r
+  half-is : Float → Float → Row
+  -- decode_probability(SNR, threshold, slope) = p
+  probability-is : Float → Float → Float → Float → Row
+  -- decode_probability(SNR, threshold, slope) > p
+  probability-over : Float → Float → Float → Float → Row
+
+abbrev pub Says : Row → Type 0
+Says (half-is t r) = half t ≡ r
+Says (probability-is snr threshold slope p) = decodeProbability snr threshold slope ≡ p
+Says (probability-over snr threshold slope p) = lt p (decodeProbability snr threshold slope) ≡ true
+
+abbrev pub Each : List Row → Type 0
+Each [] = Unit
+Each (r ∷ rs) = Says r × Each rs
+
+-- 1021.0, and 2^-1021
+abbrev pub f1021 : Float
+f1021 = f64 0x408f_e800_0000_0000
+
+abbrev pub least : Float
+least = f64 0x0020_0000_0000_0000
+
+-- 20.0 and 20.25
+abbrev pub f20 : Float
+f20 = f64 0x4034_0000_0000_0000
+
+abbrev pub f20¼ : Float
+f20¼ = f64 0x4034_4000_0000_0000
+
+abbrev pub rows : List Row
+rows =
+    -- "P1 half(0) = 1.0."
+    half-is f0 f1 ∷
+    -- "P2 half(1) = 0.5."
+    half-is f1 f½ ∷
+    -- "P3 half(1021) = 2^-1021."
+    half-is f1021 least ∷
+    -- "P4 half(1022) = 0.0."
+    half-is f1022 f0 ∷
+    -- "P9 SNR -20, threshold 0, slope 0.5: above 0; -20.25: 0.0."
+    probability-over (neg f20) f0 f½ f0 ∷
+    probability-is (neg f20¼) f0 f½ f0 ∷
+    []

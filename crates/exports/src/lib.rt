@@ -1,0 +1,3 @@
+// The calls for programs in Rust and C, as a static library; include/turmexol.h declares them.
+pub mod numbers;
+pub mod status;

@@ -1,0 +1,10 @@
+pub mod Table
+pub mod Same
+pub mod Nan
+pub mod Order
+pub mod Rounding
+pub mod Monotone
+pub mod Exact
+pub mod Division
+pub mod Share
+pub mod Sum
