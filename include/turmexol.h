@@ -3,6 +3,7 @@
 #ifndef TURMEXOL_H
 #define TURMEXOL_H
 
+#include <stddef.h>
 #include <stdint.h>
 
 #ifdef __cplusplus
@@ -18,6 +19,17 @@ double rate_exp(double y);
 /* The chance that a frame decodes (crate half). 0, and the chance in *p; or minus the number of the refusal
    (-8: an argument is outside its limits), and *p is left as it was. p must point to a double. */
 int64_t rate_decode_probability(double snr_db, double threshold_db, double slope_db, double *p);
+
+/* The rungs worth offering (crate ladder). How many there are; they stand, ascending, in the first entries of *out, and 0
+   past them. Or minus the number of the refusal (-1, -2, -3), and *out is left as it was. */
+int64_t rate_usable_modes(const double *thresholds, size_t thresholds_len, const uint32_t *payload, size_t payload_len,
+                          const double *frame_s, size_t frame_s_len, uint32_t (*out)[32]);
+
+/* What for_table says of these columns (crate ladder): 0, or minus the number of the refusal (-1 to -5). The echo column has
+   known_len entries: entry i is missing where known[i] is 0 or limits ends before it, else it is limits[i]. */
+int64_t rate_table_refusal(const double *thresholds, size_t thresholds_len, const uint32_t *payload, size_t payload_len,
+                           const uint32_t *capacity, size_t capacity_len, const double *frame_s, size_t frame_s_len,
+                           uint32_t floor_modes, const uint8_t *known, size_t known_len, const double *limits, size_t limits_len);
 
 #ifdef __cplusplus
 }

@@ -1,11 +1,13 @@
 -- The P rows hold: one theorem over the table. antt computes both sides of each row. Assumes nothing.
 use mathlib.Core.Path.{refl}
-use lib.Ieee.{ofBits, neg, add, sub, mul, div, lt, le, round}
+use lib.Ieee.{ofBits, ofInt, neg, add, sub, mul, div, lt, le, round}
 use Rattle.half.specs.Powers.{powers}
 use Rattle.half.specs.Power.{descent, series, half}
 use Rattle.half.specs.Logistic.{exp, decodeProbability}
+use Rattle.ladder.specs.Front.{beaten, frontOf}
+use Rattle.ladder.specs.Tables.{tableVerdict}
 use Rattle.checked.specs.Rows.{Each, rows}
 
 pub checked : Each rows
-unfolding powers descent series half exp decodeProbability ofBits neg add sub mul div lt le round
-checked = (refl, (refl, (refl, (refl, (refl, (refl, tt))))))
+unfolding powers descent series half exp decodeProbability beaten frontOf tableVerdict ofBits ofInt neg add sub mul div lt le round
+checked = (refl, (refl, (refl, (refl, ((refl, refl), (refl, (refl, (refl, (refl, (refl, tt))))))))))

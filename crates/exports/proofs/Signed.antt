@@ -9,7 +9,10 @@ use mir.ValLaws.{toZ-pos, toZ-ofZ}
 use Rattle.limits.specs.declared.refusal.Refusal.{Refusal}
 use Rattle.limits.specs.declared.refusal.Refusal.the-variants.{ColumnSize, ColumnsDiffer, TableValue, FloorCount, EmptyFront, UnknownRung, TooManyFrames, OutsideLimits, TooManyBursts, FileHeader, FilePairs, FileBody, SheetRoom, AnswerCount}
 use Rattle.limits.specs.Refusals.{refusalNumber}
+use Rattle.limits.specs.declared.refusal.Verdict.{Verdict}
+use Rattle.limits.specs.declared.refusal.Verdict.the-variants.{Accepted, Refused}
 use Rattle.exports.specs.Status.{minusNumber}
+use Rattle.exports.specs.Tables.{verdictStatus}
 
 pub minus-fits : (n : ℕ) → n < 4294967296 → SFits w64 (negℤ (pos n))
 minus-fits zero h = omega arith
@@ -42,3 +45,12 @@ small AnswerCount = omega arith
 -- so what a register gives back of minus one of them is minus it
 pub known : (why : Refusal) (z : ℤ) → z ≡ minusNumber why → toZ w64 (ofZ w64 z) ≡ minusNumber why
 known why z e = kept (refusalNumber why) z (small why) e
+
+-- and of 0 or minus one of them
+pub known-status : (v : Verdict) (z : ℤ) → z ≡ verdictStatus v → toZ w64 (ofZ w64 z) ≡ verdictStatus v
+known-status Accepted z e = kept 0 z (omega arith) e
+known-status (Refused why) z e = known why z e
+
+-- a count that a u32 holds
+pub counted : (n : ℕ) → n < 4294967296 → toZ w64 n ≡ pos n
+counted n h = toZ-pos w64 n (omega arith)
