@@ -14,7 +14,9 @@ use Rattle.limits.specs.declared.refusal.Refusal.the-variants.{EmptyFront}
 use Rattle.limits.specs.declared.refusal.Verdict.the-variants.{Refused}
 use Rattle.limits.specs.Refusals.{refusalNumber}
 use Rattle.ladder.specs.Lists.{select}
-use Rattle.ladder.specs.Tables.{Columns, tableVerdict, frontOfColumns}
+use Rattle.ladder.specs.Tables.{Columns, tableVerdict, frontOfColumns, tableOf, forAir}
+use Rattle.rate.specs.declared.types.RateController.{RateController}
+use Rattle.rate.specs.Calls.{Call, Silence, freshController, after}
 use Rattle.ladder.specs.Airs.{floorTime, wideAir, narrowAir}
 
 -- whether a list has a number
@@ -45,12 +47,15 @@ pub data Row : Type 0 where
   refused-with : Columns → Refusal → ℕ → Row
   -- the front has each rung of the table but these
   front-lacks : Columns → List ℕ → Row
+  -- after these calls the choice is this place
+  place-is : RateController → List Call → ℕ → Row
 
 abbrev pub Says : Row → Type 0
 Says (half-is t r) = half t ≡ r
 Says (probability-is snr threshold slope p) = decodeProbability snr threshold slope ≡ p
 Says (probability-over snr threshold slope p) = lt p (decodeProbability snr threshold slope) ≡ true
 Says (refused-with c why n) = (tableVerdict c ≡ Refused why) × (refusalNumber why ≡ n)
+Says (place-is k calls n) = after k calls .state .place .0 ≡ n
 Says (front-lacks c gone) = frontOfColumns c ≡ select (length (c .thresholds)) 0 (λ r. not (has gone r))
 
 abbrev pub Each : List Row → Type 0
@@ -92,4 +97,6 @@ rows =
     -- "P9 SNR -20, threshold 0, slope 0.5: above 0; -20.25: 0.0."
     probability-over (neg f20) f0 f½ f0 ∷
     probability-is (neg f20¼) f0 f½ f0 ∷
+    -- "P10 fresh, silence 9: place 0."
+    place-is (freshController (forAir (tableOf wideAir) true)) (Silence 9 ∷ []) 0 ∷
     []

@@ -7,4 +7,7 @@ pub mod Tabulating
 pub mod Accepted
 pub mod Refusals
 pub mod Ascending
+pub mod Cases
+pub mod Entries
+pub mod TableSound
 mod Examples

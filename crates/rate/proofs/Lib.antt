@@ -1,0 +1,4 @@
+pub mod Stepping
+pub mod ByKind
+pub mod Bursts
+pub mod Passes

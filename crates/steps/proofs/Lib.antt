@@ -1,0 +1,11 @@
+pub mod Usable
+pub mod Ranges
+pub mod Greatest
+pub mod Set
+pub mod Lowest
+pub mod Trying
+pub mod Clock
+pub mod Calm
+pub mod Fade
+pub mod Tally
+pub mod FirstBad

@@ -1,0 +1,38 @@
+-- `steps::echo::improve_at` meets its contract: each return is the definition where the tests are as the way there found them. Assumes nothing.
+use mathlib.Core.Path.{refl}
+use borrow.Author.Needs.{needs}
+use Rattle.steps.proofs.echo.improve_at.Statement.{statement}
+use Rattle.steps.proofs.echo.improve_at.Tie as tie
+
+is-usable-requires : tie.Need-is-usable-requires
+is-usable-requires c κs = search needs
+
+rung-at-requires : tie.Need-rung-at-requires
+rung-at-requires c κs = search needs
+
+estimate-at-requires : tie.Need-estimate-at-requires
+estimate-at-requires c κs = search needs
+
+priced-at-requires : tie.Need-priced-at-requires
+priced-at-requires c κs = search needs
+
+beat-requires : tie.Need-beat-requires
+beat-requires c κs = search needs
+
+returns : tie.Need-returns
+returns c = let b = c .before .before .before .before in rw (c .beat .ensures, c .before .priced-at .ensures, c .before .before .estimate-at .ensures, c .before .before .before .rung-at .ensures, ← b .before .is-usable .ensures, b .if1 .taken) refl
+
+returns-2 : tie.Need-returns-2
+returns-2 c = rw (← c .before .is-usable .ensures, c .if1 .left) refl
+
+pub improve-at-spec : {M : Type 1} → statement M
+improve-at-spec =
+    tie.close
+    (tie.spec
+    is-usable-requires
+    rung-at-requires
+    estimate-at-requires
+    priced-at-requires
+    beat-requires
+    returns
+    returns-2)

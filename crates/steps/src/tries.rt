@@ -1,0 +1,351 @@
+// Document 01's section "A transmission", what is decided once the frames are booked: judging a rung, the running try, and `decide`.
+ghost use mathlib.Core.Path.{_≡_};
+ghost use mathlib.Core.Bool.{cond, _&&_, _||_, Bool·beq};
+ghost use Prim.Native.Nat.{suc, _*_, min};
+ghost use lib.Dec.{eqb};
+ghost use lib.Ieee.{lt};
+ghost use Rattle.ladder.specs.Types.{rungAt, placesOf, isFloor};
+ghost use Rattle.account.specs.declared.types.Trying.the-variants.{Nothing, Running};
+ghost use Rattle.account.specs.State.{choice, withTrying};
+ghost use Rattle.account.specs.Price.{value, losslessPrice};
+ghost use Rattle.steps.specs.Echo.{usable, improved};
+ghost use Rattle.steps.specs.Tries.{better, judgeTry, placeFrom, fullWait, won, endTry, counted, still, candidate, choose, due, isOn, cleanClimb, above, begins, begin, decideTry, decide};
+use crate::types::Best;
+use crate::types::Decided;
+use account::types::Mark;
+use account::types::Prices;
+use account::types::State;
+use account::types::Trying;
+use ladder::types::Place;
+use ladder::types::Rung;
+use ladder::types::Table;
+
+// ---- judging a rung
+// Whether a rung's value is greater than the choice's.
+pub fn is_better(t: Table, p: Prices, s: State, r: Rung) -> bool
+    ensures { λ b. ⌜ b ≡ better t p s (r .0) ⌝ }
+{
+    let here = account::state::choice_of(t, s);
+    let v = account::price::value_of(t, p, s, r);
+    v > account::price::value_of(t, p, s, here)
+}
+
+// Twice the wait, at most 48: not computed where it could wrap.
+fn longer(w: u32) -> u32
+    ensures { λ r. ⌜ r ≡ min 48 (2 * w) ⌝ }
+{
+    if w < 24 { 2 * w } else { 48 }
+}
+
+// What frames at a rung said of it: better than the choice, or its next try waits twice as long.
+pub fn judge_try(t: Table, p: Prices, s: State, r: Rung) -> State
+    ensures { λ z. ⌜ z ≡ judgeTry t p s (r .0) ⌝ }
+{
+    if is_better(t, p, s, r) {
+        account::state::with_wait(s, r, 6)
+    } else {
+        let w = longer(account::state::wait_of(s, r));
+        account::state::with_time(account::state::with_wait(s, r, w), r, 0.0)
+    }
+}
+
+// ---- the place above: past the places none is usable, so the sum is made only where it cannot wrap
+fn is_above_usable(t: Table, s: State) -> bool
+    ensures { λ b. ⌜ b ≡ usable t s (suc (s .place .0)) ⌝ }
+{
+    let here = s.place;
+    if here.0 < 32 {
+        crate::echo::is_usable(t, s, Place(here.0 + 1))
+    } else {
+        false
+    }
+}
+
+fn rung_above(t: Table, s: State) -> Rung
+    ensures { λ r. ⌜ r .0 ≡ above t s ⌝ }
+{
+    let here = s.place;
+    if here.0 < 32 {
+        ladder::read::rung_at(t, Place(here.0 + 1))
+    } else {
+        Rung(0)
+    }
+}
+
+// ---- a running try
+// The place of a rung on the front, d where it has none.
+fn place_of(t: Table, r: Rung, d: u32) -> u32
+    ensures { λ n. ⌜ n ≡ placeFrom (placesOf t) 0 t (r .0) d ⌝ }
+{
+    let places = ladder::read::places_of(t);
+    let mut i: u32 = 0;
+    while i < places {
+        let q = ladder::read::rung_at(t, Place(i));
+        if q.0 == r.0 {
+            return i;
+        }
+        i += 1;
+    }
+    d
+}
+
+// The rung above, if usable, gets its full wait as time.
+fn full_wait(t: Table, p: Prices, s: State) -> State
+    ensures { λ z. ⌜ z ≡ fullWait t p s ⌝ }
+{
+    if is_above_usable(t, s) {
+        let up = rung_above(t, s);
+        let tariff = p.tariff;
+        account::state::with_time(s, up, account::price::wait_seconds(t, tariff, s, up))
+    } else {
+        s
+    }
+}
+
+// A won try moves the choice.
+fn win(t: Table, p: Prices, s: State, r: Rung) -> State
+    ensures { λ z. ⌜ z ≡ won t p s (r .0) ⌝ }
+{
+    let here = s.place;
+    full_wait(
+        t,
+        p,
+        account::state::with_place(s, Place(place_of(t, r, here.0))),
+    )
+}
+
+// What the end of a try of the rung r does, the try being off already: it is judged if it had a frame.
+pub fn end_try(t: Table, p: Prices, s: State, r: Rung, frames: u64) -> State
+    ensures { λ z. ⌜ z ≡ endTry t p s (r .0) frames ⌝ }
+{
+    if frames == 0 {
+        return s;
+    }
+    let judged = judge_try(t, p, s, r);
+    if is_better(t, p, s, r) {
+        win(t, p, judged, r)
+    } else {
+        judged
+    }
+}
+
+// Both counts are summed wider than they are held, and held only while they are under 3 and 6.
+fn count_running(t: Table, p: Prices, n: u32, s: State, r: Rung, calls: u32, frames: u32) -> State
+    ensures { λ z. ⌜ z ≡ counted t p n s (Running r calls frames) ⌝ }
+{
+    let all = frames as u64 + n as u64;
+    let idle = account::state::with_trying(s, Trying::Nothing);
+    if all >= 3 {
+        return end_try(t, p, idle, r, all);
+    }
+    if calls >= 5 {
+        return end_try(t, p, idle, r, all);
+    }
+    account::state::with_trying(s, Trying::Running(r, calls + 1, all as u32))
+}
+
+// A running try counts the call and its own n frames; it is over at 3 frames or 6 calls.
+pub fn count_try(t: Table, p: Prices, n: u32, s: State, y: Trying) -> State
+    ensures { λ z. ⌜ z ≡ counted t p n s y ⌝ }
+{
+    match y {
+        Trying::Nothing => s,
+        Trying::Running(r, calls, frames) => count_running(t, p, n, s, r, calls, frames),
+    }
+}
+
+// ---- `decide`: the best place
+// Whether a place may be chosen: usable, and at or below the choice or with over 2 decayed frames.
+fn is_candidate(t: Table, s: State, p: Place) -> bool
+    ensures { λ b. ⌜ b ≡ candidate t s (p .0) ⌝ }
+{
+    if crate::echo::is_usable(t, s, p) {
+        let here = s.place;
+        if p.0 <= here.0 {
+            true
+        } else {
+            let r = ladder::read::rung_at(t, p);
+            let a = account::state::account_of(s, r);
+            a.frames > 2.0
+        }
+    } else {
+        false
+    }
+}
+
+// One place more, by value, if it may be chosen.
+fn improve(t: Table, p: Prices, s: State, i: Place, best: Best) -> Best
+    ensures { λ b. ⌜ b ≡ improved (candidate t s) (λ j. value t p s (rungAt t j)) (i .0) best ⌝ }
+{
+    if is_candidate(t, s, i) {
+        let r = ladder::read::rung_at(t, i);
+        let v = account::price::value_of(t, p, s, r);
+        crate::echo::beat(best, i, v)
+    } else {
+        best
+    }
+}
+
+// The lowest of greatest value.
+pub fn choose_place(t: Table, p: Prices, s: State) -> Best
+    ensures { λ b. ⌜ b ≡ choose t p s ⌝ }
+{
+    let mut best = Best::NoneYet;
+    let places = ladder::read::places_of(t);
+    let mut i: u32 = 0;
+    while i < places {
+        best = improve(t, p, s, Place(i), best);
+        i += 1;
+    }
+    best
+}
+
+// ---- `decide`: whether a try begins
+fn is_due(t: Table, p: Prices, s: State, r: Rung) -> bool
+    ensures { λ b. ⌜ b ≡ due t p s (r .0) ⌝ }
+{
+    let tariff = p.tariff;
+    let time = account::state::time_of(s, r);
+    time >= account::price::wait_seconds(t, tariff, s, r) - 1e-9
+}
+
+fn is_on(m: Mark, r: Rung) -> bool
+    ensures { λ b. ⌜ b ≡ isOn m (r .0) ⌝ }
+{
+    match m {
+        Mark::Nowhere => false,
+        Mark::On(q) => q.0 == r.0,
+    }
+}
+
+fn same_family(t: Table, a: Rung, b: Rung) -> bool
+    ensures { λ x. ⌜ x ≡ Bool·beq (isFloor t (a .0)) (isFloor t (b .0)) ⌝ }
+{
+    let x = a.0 < t.floors;
+    let y = b.0 < t.floors;
+    x == y
+}
+
+// Whether the rung above is tried without its wait.
+fn is_clean_climb(t: Table, p: Prices, s: State, r: Rung) -> bool
+    ensures { λ b. ⌜ b ≡ cleanClimb t p s (r .0) ⌝ }
+{
+    let here = account::state::choice_of(t, s);
+    let mark = s.clean;
+    if is_on(mark, here) {
+        if same_family(t, r, here) {
+            if account::state::wait_of(s, r) == 6 {
+                return is_better(t, p, s, r);
+            }
+            return false;
+        }
+        return false;
+    }
+    false
+}
+
+// Whether a rung above that is usable is tried.
+fn is_worth_trying(t: Table, p: Prices, s: State, up: Rung) -> bool
+    ensures { λ b. ⌜ b ≡ (lt (value t p s (choice t s)) (losslessPrice t p (up .0)) && (due t p s (up .0) || cleanClimb t p s (up .0))) ⌝ }
+{
+    let here = account::state::choice_of(t, s);
+    let v = account::price::value_of(t, p, s, here);
+    if account::price::lossless_price(t, p, up) > v {
+        if is_due(t, p, s, up) {
+            return true;
+        }
+        return is_clean_climb(t, p, s, up);
+    }
+    false
+}
+
+fn does_begin(t: Table, p: Prices, s: State) -> bool
+    ensures { λ b. ⌜ b ≡ begins t p s ⌝ }
+{
+    if is_above_usable(t, s) {
+        is_worth_trying(t, p, s, rung_above(t, s))
+    } else {
+        false
+    }
+}
+
+// ---- `decide`: what it leaves
+// The state as it is, no try begun.
+pub fn still_at(s: State) -> Decided
+    ensures { λ d. ⌜ d ≡ still s ⌝ }
+{
+    Decided {
+        state: s,
+        begun: false,
+    }
+}
+
+fn begin_try(t: Table, s: State) -> Decided
+    ensures { λ d. ⌜ d ≡ begin t s ⌝ }
+{
+    let up = rung_above(t, s);
+    let z = account::state::with_trying(
+        account::state::with_time(s, up, 0.0),
+        Trying::Running(up, 0, 0),
+    );
+    Decided {
+        state: z,
+        begun: true,
+    }
+}
+
+// Whether a try of the rung r is exactly above.
+fn goes_on(t: Table, s: State, r: Rung) -> bool
+    ensures { λ b. ⌜ b ≡ (usable t s (suc (s .place .0)) && eqb (above t s) (r .0)) ⌝ }
+{
+    if is_above_usable(t, s) {
+        let up = rung_above(t, s);
+        up.0 == r.0
+    } else {
+        false
+    }
+}
+
+fn decide_idle(t: Table, p: Prices, s: State) -> Decided
+    ensures { λ d. ⌜ d ≡ decideTry t p s Nothing ⌝ }
+{
+    if does_begin(t, p, s) {
+        begin_try(t, s)
+    } else {
+        still_at(s)
+    }
+}
+
+fn decide_running(t: Table, s: State, r: Rung) -> Decided
+    ensures { λ d. ⌜ d ≡ still (cond (usable t s (suc (s .place .0)) && eqb (above t s) (r .0)) s (withTrying s Nothing)) ⌝ }
+{
+    if goes_on(t, s, r) {
+        still_at(s)
+    } else {
+        still_at(account::state::with_trying(s, Trying::Nothing))
+    }
+}
+
+fn decide_try(t: Table, p: Prices, s: State, y: Trying) -> Decided
+    ensures { λ d. ⌜ d ≡ decideTry t p s y ⌝ }
+{
+    match y {
+        Trying::Nothing => decide_idle(t, p, s),
+        Trying::Running(r, _, _) => decide_running(t, s, r),
+    }
+}
+
+// Chooses a place, and begins, keeps or ends a try of the rung above it.
+pub fn decide(t: Table, p: Prices, s: State) -> Decided
+    ensures { λ d. ⌜ d ≡ decide t p s ⌝ }
+{
+    let best = choose_place(t, p, s);
+    let y = s.trying;
+    match best {
+        Best::NoneYet => still_at(account::state::with_trying(
+            account::state::with_place(s, Place(0)),
+            Trying::Nothing,
+        )),
+        Best::Found(i, _) => decide_try(t, p, account::state::with_place(s, i), y),
+    }
+}

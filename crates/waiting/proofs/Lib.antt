@@ -1,0 +1,4 @@
+pub mod Deadline
+pub mod Tries
+pub mod Sound
+pub mod Waiting
