@@ -9,7 +9,7 @@ use ladder::types::Reading;
 use ladder::types::Table;
 
 // A fresh controller of a table.
-fn fresh(t: Table) -> RateController
+pub fn fresh(t: Table) -> RateController
     ensures { λ r. ⌜ r ≡ freshController t ⌝ }
 {
     let prices = account::state::unpriced_prices();

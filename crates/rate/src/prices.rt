@@ -27,7 +27,7 @@ fn all_bursts(bursts: &[u32]) -> bool
 }
 
 // Whether the two control lengths and the gap are within their limits.
-fn ok_lengths(floor: f64, ordinary: f64, gap: f64) -> bool
+pub fn ok_lengths(floor: f64, ordinary: f64, gap: f64) -> bool
     ensures { λ r. ⌜ r ≡ (okLength floor && okLength ordinary && okLength gap) ⌝ }
 {
     if limits::values::ok_length(floor) {

@@ -1,0 +1,12 @@
+pub mod Nan
+pub mod Ranges
+pub mod Over
+pub mod Bodies
+pub mod Pairs
+pub mod Decimal
+pub mod Rows
+pub mod Cells
+pub mod Held
+pub mod Events
+pub mod Starting
+pub mod Printed

@@ -1,0 +1,42 @@
+-- `event::frames_event` meets its contract: the array holds the frames, as far as there is room. Assumes nothing.
+use mathlib.Core.Path.{ap, _∙_}
+use Rattle.rate.specs.Calls.{Frames, step}
+use Rattle.paper.specs.Bytes.{readingOf}
+use Rattle.paper.specs.Body.{framesIn}
+use Rattle.paper.proofs.Held.{frames-held}
+use borrow.Author.Needs.{needs}
+use Rattle.paper.proofs.event.frames_event.Statement.{statement}
+use Rattle.paper.proofs.event.frames_event.Tie as tie
+
+past-requires : tie.Need-past-requires
+past-requires c κs = search needs
+
+reading-of-requires : tie.Need-reading-of-requires
+reading-of-requires c κs = search needs
+
+frames-of-requires : tie.Need-frames-of-requires
+frames-of-requires c κs = search needs
+
+cast-count : tie.Need-cast-count
+cast-count c = search needs
+
+observe-held-requires : tie.Need-observe-held-requires
+observe-held-requires c κs = search needs
+
+returns : tie.Need-returns
+returns c =
+    let a = c .before .before .before .before .before .before .before .args in
+    let fs = framesIn (a .body .now) in
+    let batch = c .before .before .before .frames-of in
+    c .observe-held .ensures ∙ frames-held (a .k) fs (c .before .before .before .before .reading-of .result) (batch .result) (batch .ensures) ∙ ap (λ snr. step (a .k) (Frames fs snr)) (c .before .before .before .before .reading-of .ensures ∙ ap readingOf (c .before .before .before .before .before .past .ensures))
+
+pub frames-event-spec : {M : Type 1} → statement M
+frames-event-spec =
+    tie.close
+    (tie.spec
+    past-requires
+    reading-of-requires
+    frames-of-requires
+    cast-count
+    observe-held-requires
+    returns)

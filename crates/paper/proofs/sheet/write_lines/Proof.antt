@@ -1,0 +1,110 @@
+-- `sheet::write_lines` meets its contract. The invariant: the lines below the i-th stand over the start of the slice, and the others are left. Assumes nothing.
+use Prim.Native.Nat.{_+_, _-_, _≤_}
+use native.Mathlib.Omega.{arith}
+use Rattle.paper.specs.Sheet.{lineBytes, linesFrom, sheetOf}
+use Rattle.paper.proofs.Over.{Next, Partly, partly-start, partly-within, partly-room, partly-next, partly-end}
+use Rattle.paper.proofs.Events.{callsFrom, answer-at, lines-start, lines-next, lines-end}
+use borrow.Author.Needs.{needs}
+use Rattle.paper.proofs.sheet.write_lines.Statement.{statement}
+use Rattle.paper.proofs.sheet.write_lines.Tie as tie
+
+abbrev Inv-loop : tie.InvT-loop
+Inv-loop file out₀ n k₀ len₀ i₀ out k len i = (i ≤ n) × Partly (sheetOf file) (linesFrom k (i + 1) (callsFrom file n i)) out₀ len out
+
+abbrev μ-loop : tie.MeasureT-loop
+μ-loop file out₀ n k₀ len₀ i₀ out k len i = n - i
+
+event-count-requires : tie.Need-event-count-requires Inv-loop μ-loop
+event-count-requires c κs = search needs
+
+air-requires : tie.Need-air-requires Inv-loop μ-loop
+air-requires c κs = search needs
+
+fresh-for-requires : tie.Need-fresh-for-requires Inv-loop μ-loop
+fresh-for-requires c κs = search needs
+
+loop-holds : tie.Need-loop-holds Inv-loop μ-loop
+loop-holds c = (search needs, rw (lines-start (c .before .before .before .before .before .args .file .now) _ _ _ (c .before .before .event-count .ensures) (c .before .air .ensures) (c .fresh-for .ensures)) (partly-start _ _))
+
+body-at-requires : tie.Need-body-at-requires Inv-loop μ-loop
+body-at-requires c κs = search needs
+
+answer-event-requires : tie.Need-answer-event-requires Inv-loop μ-loop
+answer-event-requires c κs = search needs
+
+line-of-requires : tie.Need-line-of-requires Inv-loop μ-loop
+line-of-requires c κs = search needs
+
+-- the line that is next
+next : (c : tie.After-line-of Inv-loop μ-loop)
+    → let file = c .before .before .before .before .before .before .before .before .before .before .args .file .now in
+    let n = c .before .before .before .before .before .before .before .event-count .result in
+    let l = c .before .before .before .before .loop in
+    Next (linesFrom (l .k) (l .i + 1) (callsFrom file n (l .i))) (lineBytes (l .i + 1) (c .line-of .result)) (linesFrom (c .before .answer-event .result .controller) (l .i + 1 + 1) (callsFrom file n (l .i + 1)))
+next c =
+    let file = c .before .before .before .before .before .before .before .before .before .before .args .file .now in
+    let l = c .before .before .before .before .loop in
+    lines-next file _ (l .i) (l .i + 1) (l .k) _ _ (c .before .before .before .loop-test .taken) (answer-at file (l .i) (l .k) _ _ (c .before .answer-event .ensures) (c .before .before .body-at .ensures)) (c .line-of .ensures)
+
+sub-write-line : tie.Need-sub-write-line Inv-loop μ-loop
+sub-write-line c = partly-within (c .before .before .before .before .loop .inv .1) .0
+
+part-write-line-start : tie.Need-part-write-line-start Inv-loop μ-loop
+part-write-line-start c = partly-within (c .before .before .before .before .loop .inv .1) .0
+
+part-write-line-end : tie.Need-part-write-line-end Inv-loop μ-loop
+part-write-line-end c = search needs
+
+add-write-line : tie.Need-add-write-line Inv-loop μ-loop
+add-write-line c = search needs
+
+write-line-requires : tie.Need-write-line-requires Inv-loop μ-loop
+write-line-requires c κs = partly-room (c .before .before .before .before .before .loop .inv .1) (next (c .before)) (c .before .before .before .before .before .before .before .before .before .before .before .pre) .1
+
+add-len : tie.Need-add-len Inv-loop μ-loop
+add-len c =
+    omega (arith, partly-room (c .before .before .before .before .before .before .before .before .loop .inv .1) (next (c .before .before .before .before)) (c .before .before .before .before .before .before .before .before .before .before .before .before .before .before .pre) .0, c .before .before .write-line .ensures .0, c .before .before .before .before .before .before .before .before .before .before .before .before .before .before .good)
+
+add-i : tie.Need-add-i Inv-loop μ-loop
+add-i c = search needs
+
+loop-less : tie.Need-loop-less Inv-loop μ-loop
+loop-less c = search needs
+
+loop-again : tie.Need-loop-again Inv-loop μ-loop
+loop-again c =
+    let e = c .before .before .before .write-line .ensures in
+    (omega arith, partly-next (c .before .before .before .before .before .before .before .before .before .loop .inv .1) (next (c .before .before .before .before .before)) (c .before .before .before .before .before .before .before .before .before .before .before .before .before .before .before .pre) _ _ (e .0) (e .1))
+
+same-length : tie.Need-same-length Inv-loop μ-loop
+same-length c = partly-within (c .before .loop .inv .1) .1
+
+returns : tie.Need-returns Inv-loop μ-loop
+returns c =
+    let l = c .before .loop in
+    partly-end (l .inv .1) (lines-end (c .before .before .before .before .before .before .before .args .file .now) (c .before .before .before .before .event-count .result) (l .i) (l .i + 1) (l .k) (c .loop-test .left))
+
+pub write-lines-spec : {M : Type 1} → statement M
+write-lines-spec =
+    tie.close
+    (tie.spec
+    Inv-loop
+    μ-loop
+    event-count-requires
+    air-requires
+    fresh-for-requires
+    loop-holds
+    body-at-requires
+    answer-event-requires
+    line-of-requires
+    sub-write-line
+    part-write-line-start
+    part-write-line-end
+    add-write-line
+    write-line-requires
+    add-len
+    add-i
+    loop-less
+    loop-again
+    same-length
+    returns)

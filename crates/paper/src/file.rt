@@ -1,0 +1,114 @@
+// A question file: its header, its pairs and the bodies of its events. Each function answers for every list of bytes.
+ghost use mathlib.Core.Path.{_≡_};
+ghost use Rattle.paper.specs.File.{eventCount, air, knownAir, okHeader, offsetAt, lengthAt, okPairs, bodyAt, okBodies, fileVerdict};
+use crate::body::ok_body;
+use crate::bytes::part;
+use crate::bytes::past;
+use crate::bytes::u32_of;
+use limits::refusal::Refusal;
+use limits::refusal::Verdict;
+
+// How many events the file has.
+pub fn event_count(file: &[u8]) -> u32
+    ensures { λ r. ⌜ r ≡ eventCount (now (file .entry)) ⌝ }
+{
+    u32_of(file)
+}
+
+// The air's number: 1 wide, 2 narrow.
+pub fn air(file: &[u8]) -> u32
+    ensures { λ r. ⌜ r ≡ air (now (file .entry)) ⌝ }
+{
+    u32_of(past(file, 4))
+}
+
+fn known_air(n: u32) -> bool
+    ensures { λ r. ⌜ r ≡ knownAir n ⌝ }
+{
+    if n == 1 { true } else { n == 2 }
+}
+
+// Whether the file's size, air and event count are known.
+fn ok_header(file: &[u8]) -> bool
+    ensures { λ r. ⌜ r ≡ okHeader (now (file .entry)) ⌝ }
+{
+    if file.len() < 8 {
+        return false;
+    }
+    if file.len() > 65536 {
+        return false;
+    }
+    if known_air(air(file)) {
+        return event_count(file) <= 1000;
+    }
+    false
+}
+
+// The i-th pair, from 0.
+fn offset_at(file: &[u8], i: u32) -> u32
+    ensures { λ r. ⌜ r ≡ offsetAt (now (file .entry)) i ⌝ }
+{
+    u32_of(past(file, 8 + 8 * (i as usize)))
+}
+
+fn length_at(file: &[u8], i: u32) -> u32
+    ensures { λ r. ⌜ r ≡ lengthAt (now (file .entry)) i ⌝ }
+{
+    u32_of(past(file, 12 + 8 * (i as usize)))
+}
+
+// Whether the bodies follow the pairs and each other to the file's end.
+fn ok_pairs(file: &[u8]) -> bool
+    ensures { λ r. ⌜ r ≡ okPairs (now (file .entry)) ⌝ }
+{
+    let n = event_count(file);
+    let mut at = 8 + 8 * (n as usize);
+    if file.len() < at {
+        return false;
+    }
+    for i in 0..n {
+        if offset_at(file, i) as usize != at {
+            return false;
+        }
+        at += length_at(file, i) as usize;
+    }
+    at == file.len()
+}
+
+// The body of the i-th event, from 0.
+pub fn body_at(file: &[u8], i: u32) -> &[u8]
+    ensures { λ r. ⌜ now r ≡ bodyAt (now (file .entry)) i ⌝ }
+{
+    let at = offset_at(file, i) as usize;
+    let len = length_at(file, i) as usize;
+    part(file, at, len)
+}
+
+// Whether each body has its kind's form.
+fn ok_bodies(file: &[u8]) -> bool
+    ensures { λ r. ⌜ r ≡ okBodies (now (file .entry)) ⌝ }
+{
+    let n = event_count(file);
+    for i in 0..n {
+        if !ok_body(body_at(file, i)) {
+            return false;
+        }
+    }
+    true
+}
+
+// Whether the file is a question file: refusals 10, 11 and 12, the lowest that applies.
+pub fn file_verdict(file: &[u8]) -> Verdict
+    ensures { λ r. ⌜ r ≡ fileVerdict (now (file .entry)) ⌝ }
+{
+    if !ok_header(file) {
+        return Verdict::Refused(Refusal::FileHeader);
+    }
+    if !ok_pairs(file) {
+        return Verdict::Refused(Refusal::FilePairs);
+    }
+    if !ok_bodies(file) {
+        return Verdict::Refused(Refusal::FileBody);
+    }
+    Verdict::Accepted
+}
