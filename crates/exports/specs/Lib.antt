@@ -1,3 +1,4 @@
 pub mod Status
 pub mod Numbers
 pub mod Tables
+pub mod Papers

@@ -38,6 +38,10 @@ impl RateController {
         self.usable(index)
     }
 
+    pub fn seen_echo_limit(&self, mode: usize) -> Option<f64> {
+        self.echo_limit.get(mode).copied().flatten()
+    }
+
     pub const fn seen_probe_tries(&self) -> usize {
         self.probe_tries
     }
@@ -52,6 +56,11 @@ impl RateController {
 
     pub const fn seen_ofdm_failed(&self) -> bool {
         self.ofdm_failed
+    }
+
+    /// Whether the rung above, `mode`, would be tried without its wait.
+    pub fn seen_clean_climb(&self, mode: usize) -> bool {
+        self.clean_climb(mode)
     }
 
     /// The control lengths set, `[floor, ordinary]`.

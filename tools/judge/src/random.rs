@@ -44,8 +44,30 @@ impl Random {
         (0..self.below(most + 1)).fold(x, |x, _| if down { x.next_down() } else { x.next_up() })
     }
 
+    /// Yes in about `percent` of a hundred cases.
+    pub const fn chance(&mut self, percent: usize) -> bool {
+        self.below(100) < percent
+    }
+
+    /// A number from `low` to `high`, both included.
+    pub const fn among(&mut self, low: usize, high: usize) -> usize {
+        low + self.below(high - low + 1)
+    }
+
     /// One of a list, which is not empty.
     pub fn one<T: Copy>(&mut self, list: &[T]) -> T {
         list[self.below(list.len())]
+    }
+
+    /// From one to `most` entries of a list, some perhaps more than once.
+    pub fn few<T: Copy>(&mut self, list: &[T], most: usize) -> Vec<T> {
+        (0..self.among(1, most)).map(|_| self.one(list)).collect()
+    }
+
+    /// Puts a list into any order.
+    pub fn shuffle<T>(&mut self, list: &mut [T]) {
+        for at in (1..list.len()).rev() {
+            list.swap(at, self.below(at + 1));
+        }
     }
 }
