@@ -31,6 +31,14 @@ int64_t rate_table_refusal(const double *thresholds, size_t thresholds_len, cons
                            const uint32_t *capacity, size_t capacity_len, const double *frame_s, size_t frame_s_len,
                            uint32_t floor_modes, const uint8_t *known, size_t known_len, const double *limits, size_t limits_len);
 
+/* The sheet of a question file (crate paper). Its length, and the sheet stands in the first bytes of out, with what lies past it left as it
+   was; or minus the number of the refusal (-10 to -13), and out is left as it was. */
+int64_t paper_sheet(const uint8_t *question, size_t len, uint8_t *out, size_t out_len);
+
+/* Marks one answer byte an event (crate paper). 0, and how many are right and how many count in *right and *counted; or minus the number
+   of the refusal (-10, -11, -12, -14), and both are left as they were. They must be two different places. */
+int64_t paper_mark(const uint8_t *question, size_t len, const uint8_t *answers, size_t answers_len, uint32_t *right, uint32_t *counted);
+
 #ifdef __cplusplus
 }
 #endif

@@ -10,8 +10,10 @@ use Rattle.ladder.specs.declared.types.Reading.{Reading}
 use Rattle.ladder.specs.declared.types.Reading.the-variants.{Missing, Value}
 use Rattle.ladder.specs.declared.types.Row.{Row}
 use Rattle.ladder.specs.declared.types.Table.{Table}
-use Rattle.ladder.specs.Types.{row, isFloor}
-use Rattle.account.specs.State.{Families, Unset, Set, Tariff, Prices, State, account, waitOf}
+use Rattle.ladder.specs.Types.{noRow, row, isFloor}
+use Rattle.account.specs.State.{Account, Families, Unset, Set, Tariff, Prices, State, noAccount, account, waitOf}
+pub use Rattle.account.specs.declared.types.Known.{Known}
+pub use Rattle.account.specs.declared.types.Terms.{Terms}
 
 -- ---- prior and estimate
 -- the offset of the rung's family
@@ -33,9 +35,13 @@ priorOf a margin off (Value snr) = ofNat (a .capacity) ⊗ chanceAt (a .threshol
 abbrev pub prior : Table → ℕ → Float → Reading → Float
 prior t r off snr = priorOf (row t r) (t .margin) off snr
 
--- "Estimate = (bytes + 2 × prior)/(air + 2 × frame time)", at an SNR
+-- "Estimate = (bytes + 2 × prior)/(air + 2 × frame time)"
+abbrev pub estimateOf : Account → Float → Float → Float
+estimateOf a prior time = (a .bytes ⊕ f2 ⊗ prior) ⊘ (a .air ⊕ f2 ⊗ time)
+
+-- at an SNR
 unfoldable pub estimateAt : Table → State → ℕ → Reading → Float
-estimateAt t s r snr = (account s r .bytes ⊕ f2 ⊗ prior t r (offset t s r) snr) ⊘ (account s r .air ⊕ f2 ⊗ row t r .time)
+estimateAt t s r snr = estimateOf (account s r) (prior t r (offset t s r) snr) (row t r .time)
 
 abbrev pub estimate : Table → State → ℕ → Float
 estimate t s r = estimateAt t s r (s .snr)
@@ -91,3 +97,20 @@ fullAir t p r = ofNat (burstOr p r 1) ⊗ row t r .time
 -- "its wait in seconds is wait × that"
 unfoldable pub waitSeconds : Table → Tariff → State → ℕ → Float
 waitSeconds t p s r = ofNat (waitOf s r) ⊗ fullAir t p r
+
+-- ---- the same of what was read: the value of a rung r is `rateOf (termsOf t p s (s .snr)) (knownOf t p s r)` (proofs/Rates.antt)
+abbrev pub termsOf : Table → Prices → State → Reading → Terms
+termsOf t p s snr = record { margin = t .margin; offsets = s .offsets; snr = snr; tariff = p .tariff; families = p .families }
+
+abbrev pub knownOf : Table → Prices → State → ℕ → Known
+knownOf t p s r = record { row = row t r; account = account s r; floor = isFloor t r; burst = burstOr (p .tariff) r 0 }
+
+-- of the row and the account that the arrays have at r modulo 32
+abbrev pub knownBy : ℕ → Row → Account → ℕ → ℕ → Known
+knownBy r a b n floors = record { row = cond (ltb r 32) a noRow; account = cond (ltb r 32) b noAccount; floor = ltb r floors; burst = n }
+
+abbrev pub rateOf : Terms → Known → Float
+rateOf m k =
+    let off = cond (k .floor) (m .offsets .floor) (m .offsets .ofdm) in
+    let x = estimateOf (k .account) (priorOf (k .row) (m .margin) off (m .snr)) (k .row .time) in
+    pricedOf (m .tariff .given) (k .burst) (k .row .time) (overheadOf (m .tariff) (m .families) (k .floor)) x

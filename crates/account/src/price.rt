@@ -2,18 +2,24 @@
 ghost use mathlib.Core.Path.{_≡_};
 ghost use mathlib.Core.Bool.{cond};
 ghost use lib.ListN.{getD};
-ghost use Rattle.float.specs.Numbers.{_⊕_, _⊗_, _⊘_, f2};
-ghost use Rattle.account.specs.Price.{chanceAt, chance, priorOf, estimateAt, lossless, control, burstOr, overheadOf, overhead, pricedOf, priced, value, losslessPrice, fullAir, waitSeconds};
+ghost use Rattle.account.specs.Price.{chanceAt, chance, priorOf, estimateOf, estimateAt, lossless, control, burstOr, overheadOf, pricedOf, priced, value, losslessPrice, fullAir, waitSeconds, termsOf, knownOf, knownBy, rateOf};
 use crate::types::Account;
 use crate::types::Families;
+use crate::types::Known;
 use crate::types::Offsets;
 use crate::types::Prices;
 use crate::types::State;
 use crate::types::Tariff;
+use crate::types::Terms;
 use ladder::types::Reading;
 use ladder::types::Row;
 use ladder::types::Rung;
 use ladder::types::Table;
+
+// The prior's weight, in frames, and the logistic's slope, in dB.
+const PRIOR_FRAMES: f64 = 2.0;
+
+const SLOPE_DB: f64 = 0.5;
 
 // ---- prior and estimate
 // How far a family's rungs are read under the SNR.
@@ -27,7 +33,7 @@ pub fn family_offset(floor: bool, offsets: Offsets) -> f64
 pub fn chance_at(threshold: f64, margin: f64, off: f64, snr: f64) -> f64
     ensures { λ x. ⌜ x ≡ chanceAt threshold margin off snr ⌝ }
 {
-    half::logistic::logistic(snr - off - margin, threshold, 0.5)
+    half::logistic::logistic(snr - off - margin, threshold, SLOPE_DB)
 }
 
 // The same of a rung.
@@ -50,9 +56,9 @@ pub fn prior_of(row: Row, margin: f64, off: f64, snr: Reading) -> f64
 
 // Data bytes a second of air delivers, measured and prior together.
 pub fn estimate_of(a: Account, prior: f64, time: f64) -> f64
-    ensures { λ x. ⌜ x ≡ (a .bytes ⊕ f2 ⊗ prior) ⊘ (a .air ⊕ f2 ⊗ time) ⌝ }
+    ensures { λ x. ⌜ x ≡ estimateOf a prior time ⌝ }
 {
-    (a.bytes + 2.0 * prior) / (a.air + 2.0 * time)
+    (a.bytes + PRIOR_FRAMES * prior) / (a.air + PRIOR_FRAMES * time)
 }
 
 // The same of a rung, at an SNR.
@@ -138,19 +144,84 @@ pub fn priced_at(t: Table, p: Prices, r: Rung, x: f64) -> f64
     priced_of(tariff.given, n, row.time, over, x)
 }
 
-// What the rungs are ranked by: the estimate priced.
-pub fn value_of(t: Table, p: Prices, s: State, r: Rung) -> f64
-    ensures { λ x. ⌜ x ≡ value t p s (r .0) ⌝ }
-{
-    let snr = s.snr;
-    priced_at(t, p, r, estimate_at(t, s, r, snr))
-}
-
 // The most that a rung could be worth: `lossless` priced.
 pub fn lossless_price(t: Table, p: Prices, r: Rung) -> f64
     ensures { λ x. ⌜ x ≡ losslessPrice t p (r .0) ⌝ }
 {
     priced_at(t, p, r, lossless_of(t, r))
+}
+
+// ---- value: what is read is read once
+// What the values at an SNR are read by.
+pub fn terms_of(t: Table, p: Prices, s: State, snr: Reading) -> Terms
+    ensures { λ m. ⌜ m ≡ termsOf t p s snr ⌝ }
+{
+    let offsets = s.offsets;
+    let tariff = p.tariff;
+    let families = p.families;
+    Terms {
+        margin: t.margin,
+        offsets,
+        snr,
+        tariff,
+        families,
+    }
+}
+
+// What is known of a rung, from what the arrays have at its number modulo 32: a walk that reads them itself copies neither table nor state.
+pub fn known_by(r: Rung, row: Row, a: Account, n: u32, floors: u32) -> Known
+    ensures { λ k. ⌜ k ≡ knownBy (r .0) row a n floors ⌝ }
+{
+    let row = ladder::read::row_or(r, row);
+    let account = crate::state::account_or(r, a);
+    Known {
+        row,
+        account,
+        floor: r.0 < floors,
+        burst: n,
+    }
+}
+
+// What is known of a rung.
+pub fn known_of(t: Table, p: Prices, s: State, r: Rung) -> Known
+    ensures { λ k. ⌜ k ≡ knownOf t p s (r .0) ⌝ }
+{
+    let tariff = p.tariff;
+    let n = burst_or(tariff, r, 0);
+    let i = (r.0 % 32) as usize;
+    known_by(r, t.rows[i], s.accounts[i], n, t.floors)
+}
+
+// The estimate priced.
+pub fn rate(m: Terms, k: Known) -> f64
+    ensures { λ x. ⌜ x ≡ rateOf m k ⌝ }
+{
+    let row = k.row;
+    let a = k.account;
+    let offsets = m.offsets;
+    let snr = m.snr;
+    let tariff = m.tariff;
+    let families = m.families;
+    let off = family_offset(k.floor, offsets);
+    let prior = prior_of(row, m.margin, off, snr);
+    let x = estimate_of(a, prior, row.time);
+    let over = overhead_of(tariff, families, k.floor);
+    priced_of(tariff.given, k.burst, row.time, over, x)
+}
+
+// A rung's estimate at an SNR, priced.
+pub fn rate_at(t: Table, p: Prices, s: State, r: Rung, snr: Reading) -> f64
+    ensures { λ x. ⌜ x ≡ priced t p (r .0) (estimateAt t s (r .0) snr) ⌝ }
+{
+    rate(terms_of(t, p, s, snr), known_of(t, p, s, r))
+}
+
+// What the rungs are ranked by: the estimate priced.
+pub fn value_of(t: Table, p: Prices, s: State, r: Rung) -> f64
+    ensures { λ x. ⌜ x ≡ value t p s (r .0) ⌝ }
+{
+    let snr = s.snr;
+    rate_at(t, p, s, r, snr)
 }
 
 // ---- air and wait

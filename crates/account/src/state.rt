@@ -1,6 +1,8 @@
 // How the state is read, changed and fresh. Outside the arrays the source's own defaults are read and nothing is stored, so each function is total.
 ghost use mathlib.Core.Path.{_≡_};
-ghost use Rattle.account.specs.State.{runs, account, timeOf, waitOf, choice, withTime, withWait, withTrying, withSnr, withEcho, withPlace, freshState, unpriced};
+ghost use mathlib.Core.Bool.{cond};
+ghost use lib.Dec.{ltb};
+ghost use Rattle.account.specs.State.{noAccount, runs, account, timeOf, waitOf, choice, withTime, withWait, withTrying, withSnr, withEcho, withPlace, freshState, unpriced};
 use crate::types::Account;
 use crate::types::Families;
 use crate::types::Mark;
@@ -14,6 +16,9 @@ use ladder::types::Reading;
 use ladder::types::Rung;
 use ladder::types::Table;
 
+// The shortest wait before a rung is tried, in full transmissions.
+pub const PROBE_EVERY: u32 = 6;
+
 // ---- reading
 // A rung's account.
 pub fn account_of(s: State, r: Rung) -> Account
@@ -22,6 +27,21 @@ pub fn account_of(s: State, r: Rung) -> Account
     if r.0 < 32 {
         let i = r.0 as usize;
         s.accounts[i]
+    } else {
+        Account {
+            bytes: 0.0,
+            air: 0.0,
+            frames: 0.0,
+        }
+    }
+}
+
+// The same, from what the array has at the rung's number modulo 32.
+pub fn account_or(r: Rung, a: Account) -> Account
+    ensures { λ x. ⌜ x ≡ cond (ltb (r .0) 32) a noAccount ⌝ }
+{
+    if r.0 < 32 {
+        a
     } else {
         Account {
             bytes: 0.0,
@@ -51,7 +71,7 @@ pub fn wait_of(s: State, r: Rung) -> u32
         let i = r.0 as usize;
         s.wait[i]
     } else {
-        6
+        PROBE_EVERY
     }
 }
 
@@ -199,7 +219,7 @@ pub fn fresh_state() -> State
     };
     let accounts = [none; 32];
     let since = [0.0f64; 32];
-    let wait = [6u32; 32];
+    let wait = [PROBE_EVERY; 32];
     State {
         accounts,
         since,

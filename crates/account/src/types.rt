@@ -1,6 +1,7 @@
 // The moving parts of a controller, and the prices that are set.
 use ladder::types::Place;
 use ladder::types::Reading;
+use ladder::types::Row;
 use ladder::types::Rung;
 
 // A rung's measured delivery, decayed: data bytes delivered, seconds of air spent, frames sent.
@@ -61,4 +62,21 @@ pub struct State {
     pub offsets: Offsets,
     pub failed: bool,
     pub clean: Mark,
+}
+
+// What one rung's value is read from: its row and account, whether it is floor, and its burst count, 0 where absent.
+pub struct Known {
+    pub row: Row,
+    pub account: Account,
+    pub floor: bool,
+    pub burst: u32,
+}
+
+// What all values are read by.
+pub struct Terms {
+    pub margin: f64,
+    pub offsets: Offsets,
+    pub snr: Reading,
+    pub tariff: Tariff,
+    pub families: Families,
 }

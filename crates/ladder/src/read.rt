@@ -1,6 +1,8 @@
 // How a table is read. A rung or a place outside the arrays gets the source's own defaults, so each function is total.
 ghost use mathlib.Core.Path.{_≡_};
-ghost use Rattle.ladder.specs.Types.{row, rungsOf, placesOf, inTable, rungAt, isFloor, okLimit, okSnr};
+ghost use mathlib.Core.Bool.{cond};
+ghost use lib.Dec.{ltb};
+ghost use Rattle.ladder.specs.Types.{noRow, row, rungsOf, placesOf, inTable, rungAt, isFloor, okLimit, okSnr};
 use crate::types::Place;
 use crate::types::Reading;
 use crate::types::Row;
@@ -14,6 +16,23 @@ pub fn row_of(t: Table, r: Rung) -> Row
     if r.0 < 32 {
         let i = r.0 as usize;
         t.rows[i]
+    } else {
+        Row {
+            threshold: 0.0,
+            payload: 0,
+            capacity: 0,
+            time: 1.0,
+            limit: Reading::Missing,
+        }
+    }
+}
+
+// The same, from what the array has at the rung's number modulo 32.
+pub fn row_or(r: Rung, row: Row) -> Row
+    ensures { λ x. ⌜ x ≡ cond (ltb (r .0) 32) row noRow ⌝ }
+{
+    if r.0 < 32 {
+        row
     } else {
         Row {
             threshold: 0.0,

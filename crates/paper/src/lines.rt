@@ -71,14 +71,14 @@ fn cell_count(line: Line) -> usize
 }
 
 // How long an event's line is.
-pub fn line_length(event: u32, line: Line) -> usize
+pub(crate) fn line_length(event: u32, line: Line) -> usize
     ensures { λ r. ⌜ (r ≡ length (lineBytes event line)) × (r ≤ 66) ⌝ }
 {
     row_length(cells_of(event, line), cell_count(line))
 }
 
 // An event's line at the start of the slice. Returns how many bytes it took.
-pub fn write_line(out: &mut [u8], event: u32, line: Line) -> usize
+pub(crate) fn write_line(out: &mut [u8], event: u32, line: Line) -> usize
     requires { ⌜ length (lineBytes event line) ≤ length (now out) ⌝ }
     ensures { λ r. ⌜ r ≡ length (lineBytes event line) ⌝ }
     ensures { λ r. ⌜ now (out .exit) ≡ over (lineBytes event line) (now (out .entry)) ⌝ }
@@ -103,14 +103,14 @@ fn refused_cells(why: Refusal) -> [Cell; 6]
 }
 
 // How long that line is.
-pub fn refused_length(why: Refusal) -> usize
+pub(crate) fn refused_length(why: Refusal) -> usize
     ensures { λ r. ⌜ (r ≡ length (refusedBytes why)) × (r ≤ 66) ⌝ }
 {
     row_length(refused_cells(why), 2)
 }
 
 // That line at the start of the slice. Returns how many bytes it took.
-pub fn write_refused(out: &mut [u8], why: Refusal) -> usize
+pub(crate) fn write_refused(out: &mut [u8], why: Refusal) -> usize
     requires { ⌜ length (refusedBytes why) ≤ length (now out) ⌝ }
     ensures { λ r. ⌜ r ≡ length (refusedBytes why) ⌝ }
     ensures { λ r. ⌜ now (out .exit) ≡ over (refusedBytes why) (now (out .entry)) ⌝ }

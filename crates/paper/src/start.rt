@@ -24,7 +24,7 @@ fn start_narrow() -> RateController
 }
 
 // The air's number: 1 wide, else narrow.
-pub fn fresh_for(air: u32) -> RateController
+pub(crate) fn fresh_for(air: u32) -> RateController
     ensures { λ r. ⌜ r ≡ freshFor air ⌝ }
 {
     if air == 1 {

@@ -71,7 +71,7 @@ fn end_of(i: usize, n: usize) -> u8
 }
 
 // The first n of the fields, as a line.
-pub fn write_row(out: &mut [u8], cells: [Cell; 6], n: usize) -> usize
+pub(crate) fn write_row(out: &mut [u8], cells: [Cell; 6], n: usize) -> usize
     requires { ⌜ (n ≤ 6) × (length (rowOf (take n cells)) ≤ length (now out)) ⌝ }
     ensures { λ r. ⌜ r ≡ length (rowOf (take n cells)) ⌝ }
     ensures { λ r. ⌜ now (out .exit) ≡ over (rowOf (take n cells)) (now (out .entry)) ⌝ }
@@ -97,7 +97,7 @@ fn cell_length(cell: Cell) -> usize
 }
 
 // How long the line of the first n fields is.
-pub fn row_length(cells: [Cell; 6], n: usize) -> usize
+pub(crate) fn row_length(cells: [Cell; 6], n: usize) -> usize
     requires { ⌜ n ≤ 6 ⌝ }
     ensures { λ r. ⌜ (r ≡ length (rowOf (take n cells))) × (r ≤ 66) ⌝ }
 {

@@ -7,8 +7,16 @@ use native.Mathlib.Numerals.{add-one}
 use lib.Dec.{ltb}
 use lib.Ieee.{Float}
 use borrow.Author.Tests.{ltb-true, ltb-false}
-use Rattle.ladder.specs.Types.{place}
+use Rattle.ladder.specs.declared.types.Table.{Table}
+use Rattle.ladder.specs.Types.{place, rungAt}
+use Rattle.account.specs.declared.types.Prices.{Prices}
+use Rattle.account.specs.declared.types.State.{State}
+use Rattle.account.specs.Price.{value}
 use Rattle.steps.specs.Echo.{Best, Found, beats, greatest, improved}
+
+-- the value of the rung at a place
+abbrev pub worth : Table → Prices → State → ℕ → Float
+worth t p s i = value t p s (rungAt t i)
 
 module _ (A : ℕ → Bool) (W : ℕ → Float) where
   pub start : (n : ℕ) (b : Best) → greatest (n - 0) 0 A W b ≡ greatest n 0 A W b

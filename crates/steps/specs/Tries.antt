@@ -5,6 +5,7 @@ use Prim.Native.Nat.{ℕ, zero, suc, _+_, _*_, min}
 use lib.Dec.{leb, ltb, eqb}
 use lib.Ieee.{Float, le, lt}
 use Rattle.float.specs.Numbers.{f64, _⊖_, f0, f2}
+use Rattle.ladder.specs.declared.types.Reading.{Reading}
 use Rattle.ladder.specs.declared.types.Table.{Table}
 use Rattle.ladder.specs.Types.{rung, rungAt, placesOf, isFloor}
 use Rattle.account.specs.declared.types.Trying.{Trying}
@@ -16,7 +17,7 @@ use Rattle.account.specs.declared.types.State.{State}
 use Rattle.account.specs.State.{account, timeOf, waitOf, choice, withTime, withWait, withTrying, withPlace}
 use Rattle.account.specs.Price.{value, losslessPrice, waitSeconds}
 use Rattle.steps.specs.Lists.{howMany}
-use Rattle.steps.specs.Echo.{usable, Best, NoneYet, Found, greatest}
+use Rattle.steps.specs.Echo.{over, usable, Best, NoneYet, Found, greatest}
 use Rattle.steps.specs.Booking.{Frame, at, sent}
 pub use Rattle.steps.specs.declared.types.Decided.{Decided}
 
@@ -82,6 +83,10 @@ still s = record { state = s; begun = false }
 -- "among echo-allowed places at or below the choice, or above with over 2 decayed frames"
 abbrev pub candidate : Table → State → ℕ → Bool
 candidate t s i = usable t s i && (leb i (s .place .0) || lt f2 (account s (rungAt t i) .frames))
+
+-- the same of a place on the front, by its rung's echo limit and frames
+abbrev pub candidateOf : Reading → Reading → ℕ → ℕ → Float → Bool
+candidateOf limit echo i here frames = not (over limit echo) && (leb i here || lt f2 frames)
 
 -- "the lowest of greatest value"
 unfoldable pub choose : Table → Prices → State → Best

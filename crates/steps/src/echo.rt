@@ -17,7 +17,7 @@ use ladder::types::Reading;
 use ladder::types::Rung;
 use ladder::types::Table;
 
-// ---- smoothing
+// ---- smoothing: the weights of the old and the new reading
 fn smooth(old: f64, new: f64, y: Reading, x: f64) -> Reading
     ensures { λ z. ⌜ z ≡ smooth old new y x ⌝ }
 {
@@ -237,12 +237,7 @@ fn improve_at(t: Table, p: Prices, s: State, snr: f64, i: Place, best: Best) -> 
 {
     if is_usable(t, s, i) {
         let r = ladder::read::rung_at(t, i);
-        let v = account::price::priced_at(
-            t,
-            p,
-            r,
-            account::price::estimate_at(t, s, r, Reading::Value(snr)),
-        );
+        let v = account::price::rate_at(t, p, s, r, Reading::Value(snr));
         beat(best, i, v)
     } else {
         best

@@ -4,21 +4,29 @@ ghost use mathlib.Core.Bool.{cond, _&&_, _||_, Bool·beq};
 ghost use Prim.Native.Nat.{suc, _*_, min};
 ghost use lib.Dec.{eqb};
 ghost use lib.Ieee.{lt};
-ghost use Rattle.ladder.specs.Types.{rungAt, placesOf, isFloor};
+ghost use Rattle.ladder.specs.Types.{placesOf, isFloor};
 ghost use Rattle.account.specs.declared.types.Trying.the-variants.{Nothing, Running};
 ghost use Rattle.account.specs.State.{choice, withTrying};
-ghost use Rattle.account.specs.Price.{value, losslessPrice};
-ghost use Rattle.steps.specs.Echo.{usable, improved};
-ghost use Rattle.steps.specs.Tries.{better, judgeTry, placeFrom, fullWait, won, endTry, counted, still, candidate, choose, due, isOn, cleanClimb, above, begins, begin, decideTry, decide};
+ghost use Rattle.account.specs.Price.{value, losslessPrice, rateOf};
+ghost use Rattle.steps.specs.Echo.{Found, usable, beats};
+ghost use Rattle.steps.specs.Tries.{better, judgeTry, placeFrom, fullWait, won, endTry, counted, still, candidateOf, choose, due, isOn, cleanClimb, above, begins, begin, decideTry, decide};
 use crate::types::Best;
 use crate::types::Decided;
+use account::types::Known;
 use account::types::Mark;
 use account::types::Prices;
 use account::types::State;
+use account::types::Terms;
 use account::types::Trying;
 use ladder::types::Place;
+use ladder::types::Reading;
 use ladder::types::Rung;
 use ladder::types::Table;
+
+// The longest wait before a rung is tried, in full transmissions, and how far under its wait in seconds a time may be.
+const PROBE_WAIT_MAX: u32 = 48;
+
+const WAIT_TOLERANCE_S: f64 = 1e-9;
 
 // ---- judging a rung
 // Whether a rung's value is greater than the choice's.
@@ -30,11 +38,11 @@ pub fn is_better(t: Table, p: Prices, s: State, r: Rung) -> bool
     v > account::price::value_of(t, p, s, here)
 }
 
-// Twice the wait, at most 48: not computed where it could wrap.
+// Twice the wait, at most the longest: not computed where it could wrap.
 fn longer(w: u32) -> u32
     ensures { λ r. ⌜ r ≡ min 48 (2 * w) ⌝ }
 {
-    if w < 24 { 2 * w } else { 48 }
+    if w < 24 { 2 * w } else { PROBE_WAIT_MAX }
 }
 
 // What frames at a rung said of it: better than the choice, or its next try waits twice as long.
@@ -42,7 +50,7 @@ pub fn judge_try(t: Table, p: Prices, s: State, r: Rung) -> State
     ensures { λ z. ⌜ z ≡ judgeTry t p s (r .0) ⌝ }
 {
     if is_better(t, p, s, r) {
-        account::state::with_wait(s, r, 6)
+        account::state::with_wait(s, r, account::state::PROBE_EVERY)
     } else {
         let w = longer(account::state::wait_of(s, r));
         account::state::with_time(account::state::with_wait(s, r, w), r, 0.0)
@@ -155,31 +163,28 @@ pub fn count_try(t: Table, p: Prices, n: u32, s: State, y: Trying) -> State
 }
 
 // ---- `decide`: the best place
-// Whether a place may be chosen: usable, and at or below the choice or with over 2 decayed frames.
-fn is_candidate(t: Table, s: State, p: Place) -> bool
-    ensures { λ b. ⌜ b ≡ candidate t s (p .0) ⌝ }
+// Whether a place i may be chosen, from its rung's echo limit and decayed frames: not out, and at or below the choice or with over 2 frames.
+fn is_candidate(limit: Reading, echo: Reading, i: u32, here: u32, frames: f64) -> bool
+    ensures { λ b. ⌜ b ≡ candidateOf limit echo i here frames ⌝ }
 {
-    if crate::echo::is_usable(t, s, p) {
-        let here = s.place;
-        if p.0 <= here.0 {
-            true
-        } else {
-            let r = ladder::read::rung_at(t, p);
-            let a = account::state::account_of(s, r);
-            a.frames > 2.0
-        }
-    } else {
-        false
+    if crate::echo::over_limit(limit, echo) {
+        return false;
     }
+    if i <= here {
+        return true;
+    }
+    frames > 2.0
 }
 
 // One place more, by value, if it may be chosen.
-fn improve(t: Table, p: Prices, s: State, i: Place, best: Best) -> Best
-    ensures { λ b. ⌜ b ≡ improved (candidate t s) (λ j. value t p s (rungAt t j)) (i .0) best ⌝ }
+fn improve(m: Terms, k: Known, echo: Reading, here: Place, i: Place, best: Best) -> Best
+    ensures { λ b. ⌜ b ≡ cond (candidateOf (k .row .limit) echo (i .0) (here .0) (k .account .frames) && beats (rateOf m k) best) (Found i (rateOf m k)) best ⌝ }
 {
-    if is_candidate(t, s, i) {
-        let r = ladder::read::rung_at(t, i);
-        let v = account::price::value_of(t, p, s, r);
+    let row = k.row;
+    let limit = row.limit;
+    let a = k.account;
+    if is_candidate(limit, echo, i.0, here.0, a.frames) {
+        let v = account::price::rate(m, k);
         crate::echo::beat(best, i, v)
     } else {
         best
@@ -190,11 +195,21 @@ fn improve(t: Table, p: Prices, s: State, i: Place, best: Best) -> Best
 pub fn choose_place(t: Table, p: Prices, s: State) -> Best
     ensures { λ b. ⌜ b ≡ choose t p s ⌝ }
 {
-    let mut best = Best::NoneYet;
+    let snr = s.snr;
+    let terms = account::price::terms_of(t, p, s, snr);
+    let echo = s.echo;
+    let here = s.place;
     let places = ladder::read::places_of(t);
+    let mut best = Best::NoneYet;
     let mut i: u32 = 0;
     while i < places {
-        best = improve(t, p, s, Place(i), best);
+        let at = i as usize;
+        let r = t.front[at];
+        let tariff = p.tariff;
+        let n = account::price::burst_or(tariff, r, 0);
+        let k = (r.0 % 32) as usize;
+        let known = account::price::known_by(r, t.rows[k], s.accounts[k], n, t.floors);
+        best = improve(terms, known, echo, here, Place(i), best);
         i += 1;
     }
     best
@@ -206,7 +221,7 @@ fn is_due(t: Table, p: Prices, s: State, r: Rung) -> bool
 {
     let tariff = p.tariff;
     let time = account::state::time_of(s, r);
-    time >= account::price::wait_seconds(t, tariff, s, r) - 1e-9
+    time >= account::price::wait_seconds(t, tariff, s, r) - WAIT_TOLERANCE_S
 }
 
 fn is_on(m: Mark, r: Rung) -> bool
@@ -234,7 +249,7 @@ fn is_clean_climb(t: Table, p: Prices, s: State, r: Rung) -> bool
     let mark = s.clean;
     if is_on(mark, here) {
         if same_family(t, r, here) {
-            if account::state::wait_of(s, r) == 6 {
+            if account::state::wait_of(s, r) == account::state::PROBE_EVERY {
                 return is_better(t, p, s, r);
             }
             return false;

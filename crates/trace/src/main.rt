@@ -152,7 +152,7 @@ fn mix_state(h: u64, s: State) -> u64 {
     mix_mark(mix_flag(moved, s.failed), clean)
 }
 
-// One rung: its account, time, wait, value, estimate and lossless price.
+// One rung: its account, time, wait, value, estimate and `lossless`.
 fn mix_rung(h: u64, k: RateController, r: Rung) -> u64 {
     let s = k.state;
     let a = k.account(r);

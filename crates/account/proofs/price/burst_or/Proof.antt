@@ -9,7 +9,9 @@ burst-at-requires : tie.Need-burst-at-requires
 burst-at-requires c κs = search needs
 
 returns : tie.Need-returns
-returns c = let a = c .before .before .before .before .args in rw (lt-ltb (a .r .0) (a .p .counted) (c .before .if1 .taken)) (c .burst-at .ensures)
+returns c =
+    let a = c .before .before .before .before .args in
+    rw (lt-ltb (a .r .0) (a .p .counted) (c .before .if1 .taken)) (c .burst-at .ensures)
 
 returns-2 : tie.Need-returns-2
 returns-2 c = let a = c .before .before .before .args in rw (le-ltb (a .r .0) (a .p .counted) (c .if1 .left)) refl

@@ -22,7 +22,9 @@ estimate-of-requires c κs = search needs
 
 returns : tie.Need-returns
 unfolding estimateAt
-returns c = let b = c .before .before .before .before .before .before in rw (c .estimate-of .ensures, c .before .prior-of .ensures, c .before .before .family-offset .ensures, b .account-of .ensures, b .before .row-of .ensures) refl
+returns c =
+    let b = c .before .before .before .before .before .before in
+    rw (c .estimate-of .ensures, c .before .prior-of .ensures, c .before .before .family-offset .ensures, b .account-of .ensures, b .before .row-of .ensures) refl
 
 pub estimate-at-spec : {M : Type 1} → statement M
 estimate-at-spec =

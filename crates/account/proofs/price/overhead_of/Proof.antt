@@ -23,10 +23,13 @@ control-of-requires-4 : tie.Need-control-of-requires-4
 control-of-requires-4 c κs = search needs
 
 returns : tie.Need-returns
-returns c = rw (c .before .before .before .enum-told .given .1, c .before .before .control-of .ensures, c .before .control-of2 .ensures) refl
+returns c =
+    rw (c .before .before .before .enum-told .given .1, c .before .before .control-of .ensures, c .before .control-of2 .ensures) refl
 
 returns-2 : tie.Need-returns-2
-returns-2 c = let b = c .before .before .before .before in rw (b .families .given .1, c .before .before .control-of3 .ensures, c .before .control-of4 .ensures) refl
+returns-2 c =
+    let b = c .before .before .before .before in
+    rw (b .families .given .1, c .before .before .control-of3 .ensures, c .before .control-of4 .ensures) refl
 
 pub overhead-of-spec : {M : Type 1} → statement M
 overhead-of-spec =

@@ -19,7 +19,9 @@ priced-of-requires c κs = search needs
 
 returns : tie.Need-returns
 unfolding priced
-returns c = let b = c .before .before .before .before in rw (c .priced-of .ensures, c .before .overhead-of .ensures, b .burst-or .ensures, b .before .before .row-of .ensures) refl
+returns c =
+    let b = c .before .before .before .before in
+    rw (c .priced-of .ensures, c .before .overhead-of .ensures, b .burst-or .ensures, b .before .before .row-of .ensures) refl
 
 pub priced-at-spec : {M : Type 1} → statement M
 priced-at-spec =

@@ -14,7 +14,9 @@ element-copy-out-result : tie.Need-element-copy-out-result
 element-copy-out-result c = search needs
 
 returns : tie.Need-returns
-returns c = let a = c .before .before .before .before .args in inside (a .t1 .wait) (a .r .0) (search needs) _ _ (search needs)
+returns c =
+    let a = c .before .before .before .before .args in
+    inside (a .t1 .wait) (a .r .0) (search needs) _ _ (search needs)
 
 returns-2 : tie.Need-returns-2
 returns-2 c = let a = c .before .before .args in outside (a .t1 .wait) (a .r .0) (search needs) _ (search needs)

@@ -17,7 +17,9 @@ returns : tie.Need-returns
 returns c = search needs
 
 returns-2 : tie.Need-returns-2
-returns-2 c = let a = c .before .before .args in rw (← unstored (a .s .since) (a .r .0) (search needs) (a .x) (search needs))
+returns-2 c =
+    let a = c .before .before .args in
+    rw (← unstored (a .s .since) (a .r .0) (search needs) (a .x) (search needs))
 
 pub with-time-spec : {M : Type 1} → statement M
 with-time-spec = tie.close (tie.spec cast-i mul-z element-write-z returns returns-2)

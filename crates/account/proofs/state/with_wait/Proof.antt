@@ -17,7 +17,9 @@ returns : tie.Need-returns
 returns c = search needs
 
 returns-2 : tie.Need-returns-2
-returns-2 c = let a = c .before .before .args in rw (← unstored (a .s .wait) (a .r .0) (search needs) (a .w) (search needs))
+returns-2 c =
+    let a = c .before .before .args in
+    rw (← unstored (a .s .wait) (a .r .0) (search needs) (a .w) (search needs))
 
 pub with-wait-spec : {M : Type 1} → statement M
 with-wait-spec = tie.close (tie.spec cast-i mul-z element-write-z returns returns-2)

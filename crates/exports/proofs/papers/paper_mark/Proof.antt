@@ -18,7 +18,7 @@ enum-known-answer-2 : tie.Need-enum-known-answer-2
 enum-known-answer-2 c = search needs
 
 returns : tie.Need-returns
-returns c = 
+returns c =
     rw (← c .before .before .before .before .mark .ensures, c .before .before .answer .given .1)
     (known (c .before .before .answer .given .0 .0) (c .minus-number .result) (c .minus-number .ensures), (refl, refl))
 

@@ -19,7 +19,9 @@ returns : tie.Need-returns
 returns c = search needs
 
 returns-2 : tie.Need-returns-2
-returns-2 c = let a = c .before .before .args in ap (λ (x : Rung). x .0) (outside (a .t1 .front) (a .p .0) (search (needs, of-parts)) _ (search needs))
+returns-2 c =
+    let a = c .before .before .args in
+    ap (λ (x : Rung). x .0) (outside (a .t1 .front) (a .p .0) (search (needs, of-parts)) _ (search needs))
 
 pub rung-at-spec : {M : Type 1} → statement M
 rung-at-spec = tie.close (tie.spec cast-i mul-result element-copy-out-result returns returns-2)

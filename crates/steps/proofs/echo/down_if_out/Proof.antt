@@ -20,7 +20,9 @@ with-place-requires : tie.Need-with-place-requires
 with-place-requires c κs = search needs
 
 returns : tie.Need-returns
-returns c = let b = c .before .before .before .before in rw (c .with-place .ensures, c .before .best-place .ensures, c .before .before .best-under .ensures, ← b .before .choice-of .ensures, ← b .out-at .ensures, c .before .before .before .if1 .taken) refl
+returns c =
+    let b = c .before .before .before .before in
+    rw (c .with-place .ensures, c .before .best-place .ensures, c .before .before .best-under .ensures, ← b .before .choice-of .ensures, ← b .out-at .ensures, c .before .before .before .if1 .taken) refl
 
 returns-2 : tie.Need-returns-2
 returns-2 c = rw (← c .before .before .choice-of .ensures, ← c .before .out-at .ensures, c .if1 .left) refl

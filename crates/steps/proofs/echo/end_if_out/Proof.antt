@@ -20,7 +20,9 @@ returns : tie.Need-returns
 returns c = rw (c .enum-told .given .1) refl
 
 returns-2 : tie.Need-returns-2
-returns-2 c = let b = c .before .before .before .before in rw (b .y .given .1, c .with-trying .ensures, ← c .before .before .out-at .ensures, c .before .if1 .taken) refl
+returns-2 c =
+    let b = c .before .before .before .before in
+    rw (b .y .given .1, c .with-trying .ensures, ← c .before .before .out-at .ensures, c .before .if1 .taken) refl
 
 returns-3 : tie.Need-returns-3
 returns-3 c = rw (c .before .before .before .y .given .1, ← c .before .out-at .ensures, c .if1 .left) refl

@@ -19,7 +19,8 @@ abbrev worth : Table → Prices → State → Float → ℕ → Float
 worth t p s snr j = priced t p (rungAt t j) (estimateAt t s (rungAt t j) (Value snr))
 
 abbrev Inv-loop : tie.InvT-loop
-Inv-loop t p s snr best₀ places i₀ best i = (i ≤ placesOf t) × (greatest (placesOf t - i) i (usable t s) (worth t p s snr) best ≡ greatest (placesOf t) 0 (usable t s) (worth t p s snr) NoneYet)
+Inv-loop t p s snr best₀ places i₀ best i =
+    (i ≤ placesOf t) × (greatest (placesOf t - i) i (usable t s) (worth t p s snr) best ≡ greatest (placesOf t) 0 (usable t s) (worth t p s snr) NoneYet)
 
 abbrev μ-loop : tie.MeasureT-loop
 μ-loop t p s snr best₀ places i₀ best i = placesOf t - i
@@ -28,7 +29,9 @@ places-of-requires : tie.Need-places-of-requires Inv-loop μ-loop
 places-of-requires c κs = search needs
 
 loop-holds : tie.Need-loop-holds Inv-loop μ-loop
-loop-holds c = let a = c .before .args in (omega arith, start (usable (a .t) (a .s)) (worth (a .t) (a .p) (a .s) (a .snr)) (placesOf (a .t)) NoneYet)
+loop-holds c =
+    let a = c .before .args in
+    (omega arith, start (usable (a .t) (a .s)) (worth (a .t) (a .p) (a .s) (a .snr)) (placesOf (a .t)) NoneYet)
 
 improve-at-requires : tie.Need-improve-at-requires Inv-loop μ-loop
 improve-at-requires c κs = search needs
@@ -40,10 +43,17 @@ loop-less : tie.Need-loop-less Inv-loop μ-loop
 loop-less c = omega arith
 
 loop-again : tie.Need-loop-again Inv-loop μ-loop
-loop-again c = let b = c .before .before .before .before in let a = b .args in let l = c .before .before .loop in (omega arith, turn (usable (a .t) (a .s)) (worth (a .t) (a .p) (a .s) (a .snr)) (placesOf (a .t)) (l .i) (l .best) (c .improve-at .result) (omega arith) (c .improve-at .ensures) ∙ l .inv .1)
+loop-again c =
+    let b = c .before .before .before .before in
+    let a = b .args in
+    let l = c .before .before .loop in
+    (omega arith, turn (usable (a .t) (a .s)) (worth (a .t) (a .p) (a .s) (a .snr)) (placesOf (a .t)) (l .i) (l .best) (c .improve-at .result) (omega arith) (c .improve-at .ensures) ∙ l .inv .1)
 
 returns : tie.Need-returns Inv-loop μ-loop
-returns c = let a = c .before .before .before .args in let l = c .before .loop in done (usable (a .t) (a .s)) (worth (a .t) (a .p) (a .s) (a .snr)) (placesOf (a .t)) (l .i) (l .best) (omega arith) ∙ l .inv .1
+returns c =
+    let a = c .before .before .before .args in
+    let l = c .before .loop in
+    done (usable (a .t) (a .s)) (worth (a .t) (a .p) (a .s) (a .snr)) (placesOf (a .t)) (l .i) (l .best) (omega arith) ∙ l .inv .1
 
 pub first-best-spec : {M : Type 1} → statement M
 first-best-spec =

@@ -1,6 +1,6 @@
 -- `steps::echo::has_ofdm` meets its contract: what is left of the walk gives what the whole walk gives. Assumes nothing.
 use mathlib.Core.Path.{_≡_, _∙_}
-use Prim.Native.Nat.{ℕ, _-_, _≤_}
+use Prim.Native.Nat.{_-_, _≤_}
 use native.Mathlib.Omega.{arith}
 use Rattle.ladder.specs.Lists.{someFrom}
 use Rattle.ladder.specs.Types.{placesOf}
@@ -26,7 +26,11 @@ is-ofdm-at-requires : tie.Need-is-ofdm-at-requires Inv-loop μ-loop
 is-ofdm-at-requires c κs = search needs
 
 returns : tie.Need-returns Inv-loop μ-loop
-returns c = let b = c .before .before .before .before .before in let a = b .args in let l = c .before .before .before .loop in found (ofdmAt (a .t)) (placesOf (a .t)) (l .i) (omega arith) (c .before .is-ofdm-at .result) (c .before .is-ofdm-at .ensures) (c .if1 .taken) ∙ l .inv .1
+returns c =
+    let b = c .before .before .before .before .before in
+    let a = b .args in
+    let l = c .before .before .before .loop in
+    found (ofdmAt (a .t)) (placesOf (a .t)) (l .i) (omega arith) (c .before .is-ofdm-at .result) (c .before .is-ofdm-at .ensures) (c .if1 .taken) ∙ l .inv .1
 
 add-i : tie.Need-add-i Inv-loop μ-loop
 add-i c = search needs
@@ -35,10 +39,17 @@ loop-less : tie.Need-loop-less Inv-loop μ-loop
 loop-less c = omega arith
 
 loop-again : tie.Need-loop-again Inv-loop μ-loop
-loop-again c = let b = c .before .before .before .before .before in let a = b .args in let l = c .before .before .before .loop in (omega arith, further (ofdmAt (a .t)) (placesOf (a .t)) (l .i) (omega arith) (c .before .is-ofdm-at .result) (c .before .is-ofdm-at .ensures) (c .if1 .left) ∙ l .inv .1)
+loop-again c =
+    let b = c .before .before .before .before .before in
+    let a = b .args in
+    let l = c .before .before .before .loop in
+    (omega arith, further (ofdmAt (a .t)) (placesOf (a .t)) (l .i) (omega arith) (c .before .is-ofdm-at .result) (c .before .is-ofdm-at .ensures) (c .if1 .left) ∙ l .inv .1)
 
 returns-2 : tie.Need-returns-2 Inv-loop μ-loop
-returns-2 c = let a = c .before .before .before .args in let l = c .before .loop in done (ofdmAt (a .t)) (placesOf (a .t)) (l .i) (omega arith) ∙ l .inv .1
+returns-2 c =
+    let a = c .before .before .before .args in
+    let l = c .before .loop in
+    done (ofdmAt (a .t)) (placesOf (a .t)) (l .i) (omega arith) ∙ l .inv .1
 
 pub has-ofdm-spec : {M : Type 1} → statement M
 has-ofdm-spec =

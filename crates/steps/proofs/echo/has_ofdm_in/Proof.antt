@@ -32,7 +32,11 @@ is-ofdm-in-requires : tie.Need-is-ofdm-in-requires Inv-loop μ-loop
 is-ofdm-in-requires c κs = search needs
 
 returns : tie.Need-returns Inv-loop μ-loop
-returns c = let b = c .before .before .before .before .before in let a = b .args in let l = c .before .before .before .loop in found (inside (a .t) (a .s)) (placesOf (a .t)) (l .i) (omega arith) (c .before .is-ofdm-in .result) (c .before .is-ofdm-in .ensures) (c .if1 .taken) ∙ l .inv .1
+returns c =
+    let b = c .before .before .before .before .before in
+    let a = b .args in
+    let l = c .before .before .before .loop in
+    found (inside (a .t) (a .s)) (placesOf (a .t)) (l .i) (omega arith) (c .before .is-ofdm-in .result) (c .before .is-ofdm-in .ensures) (c .if1 .taken) ∙ l .inv .1
 
 add-i : tie.Need-add-i Inv-loop μ-loop
 add-i c = search needs
@@ -41,10 +45,17 @@ loop-less : tie.Need-loop-less Inv-loop μ-loop
 loop-less c = omega arith
 
 loop-again : tie.Need-loop-again Inv-loop μ-loop
-loop-again c = let b = c .before .before .before .before .before in let a = b .args in let l = c .before .before .before .loop in (omega arith, further (inside (a .t) (a .s)) (placesOf (a .t)) (l .i) (omega arith) (c .before .is-ofdm-in .result) (c .before .is-ofdm-in .ensures) (c .if1 .left) ∙ l .inv .1)
+loop-again c =
+    let b = c .before .before .before .before .before in
+    let a = b .args in
+    let l = c .before .before .before .loop in
+    (omega arith, further (inside (a .t) (a .s)) (placesOf (a .t)) (l .i) (omega arith) (c .before .is-ofdm-in .result) (c .before .is-ofdm-in .ensures) (c .if1 .left) ∙ l .inv .1)
 
 returns-2 : tie.Need-returns-2 Inv-loop μ-loop
-returns-2 c = let a = c .before .before .before .args in let l = c .before .loop in done (inside (a .t) (a .s)) (placesOf (a .t)) (l .i) (omega arith) ∙ l .inv .1
+returns-2 c =
+    let a = c .before .before .before .args in
+    let l = c .before .loop in
+    done (inside (a .t) (a .s)) (placesOf (a .t)) (l .i) (omega arith) ∙ l .inv .1
 
 pub has-ofdm-in-spec : {M : Type 1} → statement M
 has-ofdm-in-spec =

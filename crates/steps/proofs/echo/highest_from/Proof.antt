@@ -45,13 +45,19 @@ at-most-31-requires : tie.Need-at-most-31-requires Inv-loop μ-loop
 at-most-31-requires c κs = search needs
 
 loop-holds : tie.Need-loop-holds Inv-loop μ-loop
-loop-holds c = let a = c .before .args in ap (highest (a .t) (a .s)) (c .at-most-31 .ensures) ∙ capped (a .t) (a .s) (a .top)
+loop-holds c =
+    let a = c .before .args in
+    ap (highest (a .t) (a .s)) (c .at-most-31 .ensures) ∙ capped (a .t) (a .s) (a .top)
 
 is-usable-requires : tie.Need-is-usable-requires Inv-loop μ-loop
 is-usable-requires c κs = search needs
 
 returns : tie.Need-returns Inv-loop μ-loop
-returns c = let b = c .before .before .before .before .before in let a = b .args in let l = c .before .before .before .loop in found (a .t) (a .s) (l .i) (omega arith) (c .before .is-usable .result) (c .before .is-usable .ensures) (c .if1 .taken) ∙ l .inv
+returns c =
+    let b = c .before .before .before .before .before in
+    let a = b .args in
+    let l = c .before .before .before .loop in
+    found (a .t) (a .s) (l .i) (omega arith) (c .before .is-usable .result) (c .before .is-usable .ensures) (c .if1 .taken) ∙ l .inv
 
 sub-i : tie.Need-sub-i Inv-loop μ-loop
 sub-i c = search needs
@@ -60,10 +66,17 @@ loop-less : tie.Need-loop-less Inv-loop μ-loop
 loop-less c = omega arith
 
 loop-again : tie.Need-loop-again Inv-loop μ-loop
-loop-again c = let b = c .before .before .before .before .before in let a = b .args in let l = c .before .before .before .loop in further (a .t) (a .s) (l .i) (omega arith) (c .before .is-usable .result) (c .before .is-usable .ensures) (c .if1 .left) ∙ l .inv
+loop-again c =
+    let b = c .before .before .before .before .before in
+    let a = b .args in
+    let l = c .before .before .before .loop in
+    further (a .t) (a .s) (l .i) (omega arith) (c .before .is-usable .result) (c .before .is-usable .ensures) (c .if1 .left) ∙ l .inv
 
 returns-2 : tie.Need-returns-2 Inv-loop μ-loop
-returns-2 c = let a = c .before .before .before .args in let q : 0 ≡ c .before .loop .i = omega arith in ap (highest (a .t) (a .s)) q ∙ c .before .loop .inv
+returns-2 c =
+    let a = c .before .before .before .args in
+    let q : 0 ≡ c .before .loop .i = omega arith in
+    ap (highest (a .t) (a .s)) q ∙ c .before .loop .inv
 
 pub highest-from-spec : {M : Type 1} → statement M
 highest-from-spec =

@@ -10,17 +10,16 @@ is-usable-requires c κs = search needs
 rung-at-requires : tie.Need-rung-at-requires
 rung-at-requires c κs = search needs
 
-estimate-at-requires : tie.Need-estimate-at-requires
-estimate-at-requires c κs = search needs
-
-priced-at-requires : tie.Need-priced-at-requires
-priced-at-requires c κs = search needs
+rate-at-requires : tie.Need-rate-at-requires
+rate-at-requires c κs = search needs
 
 beat-requires : tie.Need-beat-requires
 beat-requires c κs = search needs
 
 returns : tie.Need-returns
-returns c = let b = c .before .before .before .before in rw (c .beat .ensures, c .before .priced-at .ensures, c .before .before .estimate-at .ensures, c .before .before .before .rung-at .ensures, ← b .before .is-usable .ensures, b .if1 .taken) refl
+returns c =
+    let b = c .before .before .before .before in
+    rw (c .beat .ensures, c .before .rate-at .ensures, c .before .before .rung-at .ensures, ← b .is-usable .ensures, c .before .before .before .if1 .taken) refl
 
 returns-2 : tie.Need-returns-2
 returns-2 c = rw (← c .before .is-usable .ensures, c .if1 .left) refl
@@ -28,11 +27,4 @@ returns-2 c = rw (← c .before .is-usable .ensures, c .if1 .left) refl
 pub improve-at-spec : {M : Type 1} → statement M
 improve-at-spec =
     tie.close
-    (tie.spec
-    is-usable-requires
-    rung-at-requires
-    estimate-at-requires
-    priced-at-requires
-    beat-requires
-    returns
-    returns-2)
+    (tie.spec is-usable-requires rung-at-requires rate-at-requires beat-requires returns returns-2)

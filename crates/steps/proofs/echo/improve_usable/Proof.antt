@@ -17,7 +17,9 @@ beat-requires : tie.Need-beat-requires
 beat-requires c κs = search needs
 
 returns : tie.Need-returns
-returns c = let b = c .before .before .before .before in rw (c .beat .ensures, c .before .value-of .ensures, c .before .before .rung-at .ensures, ← b .is-usable .ensures, c .before .before .before .if1 .taken) refl
+returns c =
+    let b = c .before .before .before .before in
+    rw (c .beat .ensures, c .before .value-of .ensures, c .before .before .rung-at .ensures, ← b .is-usable .ensures, c .before .before .before .if1 .taken) refl
 
 returns-2 : tie.Need-returns-2
 returns-2 c = rw (← c .before .is-usable .ensures, c .if1 .left) refl

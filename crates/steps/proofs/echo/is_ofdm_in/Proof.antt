@@ -14,7 +14,8 @@ out-at-requires : tie.Need-out-at-requires
 out-at-requires c κs = search needs
 
 returns : tie.Need-returns
-returns c = rw (← c .before .before .before .is-ofdm-at .ensures, c .before .before .if1 .taken, c .out-at .ensures, c .before .rung-at .ensures) refl
+returns c =
+    rw (← c .before .before .before .is-ofdm-at .ensures, c .before .before .if1 .taken, c .out-at .ensures, c .before .rung-at .ensures) refl
 
 returns-2 : tie.Need-returns-2
 returns-2 c = rw (← c .before .is-ofdm-at .ensures, c .if1 .left) refl

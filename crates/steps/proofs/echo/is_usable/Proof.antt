@@ -17,10 +17,13 @@ out-at-requires : tie.Need-out-at-requires
 out-at-requires c κs = search needs
 
 returns : tie.Need-returns
-returns c = let b = c .before .before .before .before .before in rw (c .out-at .ensures, c .before .rung-at .ensures, lt-ltb (b .args .p .0) (placesOf (b .args .t)) (omega arith)) refl
+returns c =
+    let b = c .before .before .before .before .before in
+    rw (c .out-at .ensures, c .before .rung-at .ensures, lt-ltb (b .args .p .0) (placesOf (b .args .t)) (omega arith)) refl
 
 returns-2 : tie.Need-returns-2
-returns-2 c = rw (le-ltb (c .before .before .before .args .p .0) (placesOf (c .before .before .before .args .t)) (omega arith)) refl
+returns-2 c =
+    rw (le-ltb (c .before .before .before .args .p .0) (placesOf (c .before .before .before .args .t)) (omega arith)) refl
 
 pub is-usable-spec : {M : Type 1} → statement M
 is-usable-spec =

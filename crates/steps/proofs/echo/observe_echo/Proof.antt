@@ -30,7 +30,9 @@ returns-2 c = rw (c .enum-told .given .1) refl
 
 returns-3 : tie.Need-returns-3
 unfolding observeEcho
-returns-3 c = let b = c .before .before .before .before .before in rw (b .share .given .1, c .obey-echo .ensures, c .before .with-echo .ensures, c .before .before .smooth-echo .ensures, c .before .before .before .if1 .left) refl
+returns-3 c =
+    let b = c .before .before .before .before .before in
+    rw (b .share .given .1, c .obey-echo .ensures, c .before .with-echo .ensures, c .before .before .smooth-echo .ensures, c .before .before .before .if1 .left) refl
 
 pub observe-echo-spec : {M : Type 1} → statement M
 observe-echo-spec =

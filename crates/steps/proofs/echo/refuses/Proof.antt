@@ -17,14 +17,17 @@ is-back-on-floor-requires c κs = search needs
 
 returns-2 : tie.Need-returns-2
 unfolding refuses
-returns-2 c = rw (← c .before .before .before .is-floor .ensures, c .before .before .if1 .left, ← c .before .is-back-on-floor .ensures, c .if2 .taken) refl
+returns-2 c =
+    rw (← c .before .before .before .is-floor .ensures, c .before .before .if1 .left, ← c .before .is-back-on-floor .ensures, c .if2 .taken) refl
 
 is-all-out-requires : tie.Need-is-all-out-requires
 is-all-out-requires c κs = search needs
 
 returns-3 : tie.Need-returns-3
 unfolding refuses
-returns-3 c = let b = c .before .before .before .before in rw (c .is-all-out .ensures, ← b .is-floor .ensures, c .before .before .before .if1 .left, ← c .before .before .is-back-on-floor .ensures, c .before .if2 .left) refl
+returns-3 c =
+    let b = c .before .before .before .before in
+    rw (c .is-all-out .ensures, ← b .is-floor .ensures, c .before .before .before .if1 .left, ← c .before .before .is-back-on-floor .ensures, c .before .if2 .left) refl
 
 pub refuses-spec : {M : Type 1} → statement M
 refuses-spec =

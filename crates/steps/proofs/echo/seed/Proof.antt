@@ -22,7 +22,8 @@ enum-told-2 c = search needs
 
 returns : tie.Need-returns
 unfolding seed
-returns c = rw (c .with-place .ensures, c .before .before .with-snr .ensures, c .before .first-place .ensures, c .before .before .before .enum-told .given .1) refl
+returns c =
+    rw (c .with-place .ensures, c .before .before .with-snr .ensures, c .before .first-place .ensures, c .before .before .before .enum-told .given .1) refl
 
 returns-2 : tie.Need-returns-2
 unfolding seed

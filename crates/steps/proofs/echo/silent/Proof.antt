@@ -19,7 +19,8 @@ with-place-requires c κs = search needs
 
 returns : tie.Need-returns
 unfolding silent
-returns c = rw (c .with-place .ensures, c .before .with-trying .ensures, c .before .before .highest-from .ensures, c .before .before .before .less .ensures) refl
+returns c =
+    rw (c .with-place .ensures, c .before .with-trying .ensures, c .before .before .highest-from .ensures, c .before .before .before .less .ensures) refl
 
 pub silent-spec : {M : Type 1} → statement M
 silent-spec =

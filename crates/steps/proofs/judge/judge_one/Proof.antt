@@ -12,16 +12,22 @@ is-trying-requires : tie.Need-is-trying-requires
 is-trying-requires c κs = search needs
 
 returns : tie.Need-returns
-returns c = let b = c .before .before .before .before .before in rw (← b .choice-of .ensures, lt-ltb (b .choice-of .result .0) (b .before .args .r .0) (c .before .before .if1 .taken), ← c .before .is-trying .ensures, c .if2 .taken) refl
+returns c =
+    let b = c .before .before .before .before .before in
+    rw (← b .choice-of .ensures, lt-ltb (b .choice-of .result .0) (b .before .args .r .0) (c .before .before .if1 .taken), ← c .before .is-trying .ensures, c .if2 .taken) refl
 
 judge-try-requires : tie.Need-judge-try-requires
 judge-try-requires c κs = search needs
 
 returns-2 : tie.Need-returns-2
-returns-2 c = let b = c .before .before .before .before .before .before in rw (c .judge-try .ensures, ← b .choice-of .ensures, lt-ltb (b .choice-of .result .0) (b .before .args .r .0) (c .before .before .before .if1 .taken), ← c .before .before .is-trying .ensures, c .before .if2 .left) refl
+returns-2 c =
+    let b = c .before .before .before .before .before .before in
+    rw (c .judge-try .ensures, ← b .choice-of .ensures, lt-ltb (b .choice-of .result .0) (b .before .args .r .0) (c .before .before .before .if1 .taken), ← c .before .before .is-trying .ensures, c .before .if2 .left) refl
 
 returns-3 : tie.Need-returns-3
-returns-3 c = let b = c .before .before .before .before in rw (← c .before .before .before .choice-of .ensures, le-ltb (c .before .before .before .choice-of .result .0) (b .args .r .0) (c .if1 .left)) refl
+returns-3 c =
+    let b = c .before .before .before .before in
+    rw (← c .before .before .before .choice-of .ensures, le-ltb (c .before .before .before .choice-of .result .0) (b .args .r .0) (c .if1 .left)) refl
 
 pub judge-one-spec : {M : Type 1} → statement M
 judge-one-spec =

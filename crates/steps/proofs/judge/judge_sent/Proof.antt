@@ -35,10 +35,18 @@ loop-less : tie.Need-loop-less Inv-loop μ-loop
 loop-less c = rw (shift _ (low (c .before) .digit)) (omega (arith, low (c .before) .fewer))
 
 loop-again : tie.Need-loop-again Inv-loop μ-loop
-loop-again c = let a = c .before .before .before .args in let l = c .before .before .loop in let e = judge-next (a .t) (a .p) (l .left) (l .z) (some (l .left) (c .before .loop-test .taken)) (l .inv .0) in rw (shift _ (low (c .before) .digit)) (omega arith, ap (judgeSet _ (a .t) (a .p)) (c .judge-one .ensures) ∙ sym e ∙ l .inv .1)
+loop-again c =
+    let a = c .before .before .before .args in
+    let l = c .before .before .loop in
+    let e = judge-next (a .t) (a .p) (l .left) (l .z) (some (l .left) (c .before .loop-test .taken)) (l .inv .0) in
+    rw (shift _ (low (c .before) .digit)) (omega arith, ap (judgeSet _ (a .t) (a .p)) (c .judge-one .ensures) ∙ sym e ∙ l .inv .1)
 
 returns : tie.Need-returns Inv-loop μ-loop
-returns c = let a = c .before .before .args in let l = c .before .loop in let q : l .left ≡ 0 = empty 32 _ (l .inv .0) (c .loop-test .left) in sym (judge-none (a .t) (a .p) (l .z)) ∙ (rw q at (l .inv .1))
+returns c =
+    let a = c .before .before .args in
+    let l = c .before .loop in
+    let q : l .left ≡ 0 = empty 32 _ (l .inv .0) (c .loop-test .left) in
+    sym (judge-none (a .t) (a .p) (l .z)) ∙ (rw q at (l .inv .1))
 
 pub judge-sent-spec : {M : Type 1} → statement M
 judge-sent-spec =

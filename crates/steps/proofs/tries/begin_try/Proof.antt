@@ -33,7 +33,9 @@ with-trying-requires : tie.Need-with-trying-requires
 with-trying-requires c κs = search needs
 
 returns : tie.Need-returns
-returns c = let a = c .before .before .before .args in started (a .t) (a .s) (c .before .before .rung-above .result) (c .before .with-time .result) (c .with-trying .result) (c .before .before .rung-above .ensures) (c .before .with-time .ensures) (c .with-trying .ensures)
+returns c =
+    let a = c .before .before .before .args in
+    started (a .t) (a .s) (c .before .before .rung-above .result) (c .before .with-time .result) (c .with-trying .result) (c .before .before .rung-above .ensures) (c .before .with-time .ensures) (c .with-trying .ensures)
 
 pub begin-try-spec : {M : Type 1} → statement M
 begin-try-spec =

@@ -1,35 +1,82 @@
 -- `steps::tries::choose_place` meets its contract: what is left of the walk gives what the whole walk gives. Assumes nothing.
-use mathlib.Core.Path.{_≡_, _∙_}
-use Prim.Native.Nat.{ℕ, _-_, _≤_}
+use mathlib.Core.Path.{_≡_, refl, _∙_}
+use mathlib.Core.Bool.{_&&_, cond}
+use Prim.Native.Nat.{ℕ, _-_, _<_, _≤_}
 use native.Mathlib.Omega.{arith}
-use lib.Ieee.{Float}
+use lib.ListN.{length}
+use borrow.Author.Tests.{lt-ltb}
 use Rattle.ladder.specs.declared.types.Table.{Table}
-use Rattle.ladder.specs.Types.{rungAt, placesOf}
+use Rattle.ladder.specs.Types.{place, rungAt, placesOf}
+use Rattle.ladder.proofs.Arrays.{of-parts}
+use Rattle.account.specs.declared.types.Known.{Known}
 use Rattle.account.specs.declared.types.Prices.{Prices}
 use Rattle.account.specs.declared.types.State.{State}
-use Rattle.account.specs.Price.{value}
-use Rattle.steps.specs.Echo.{NoneYet, greatest}
-use Rattle.steps.specs.Tries.{candidate, choose}
-use Rattle.steps.proofs.Greatest.{start, turn, done}
+use Rattle.account.specs.declared.types.Terms.{Terms}
+use Rattle.account.specs.Price.{value, termsOf, knownOf, rateOf}
+use Rattle.account.proofs.Rates.{read, valued}
+use Rattle.steps.specs.Echo.{Best, NoneYet, Found, beats, improved, greatest}
+use Rattle.steps.specs.Tries.{candidate, candidateOf, choose}
+use Rattle.steps.proofs.Greatest.{worth, start, turn, done}
 use borrow.Author.Needs.{needs}
 use Rattle.steps.proofs.tries.choose_place.Statement.{statement}
 use Rattle.steps.proofs.tries.choose_place.Tie as tie
 
-abbrev worth : Table → Prices → State → ℕ → Float
-worth t p s j = value t p s (rungAt t j)
+-- one place: what was read of its rung is what the definitions read
+same : (t : Table) (p : Prices) (s : State) (i : ℕ) (m : Terms) (k : Known) (b z : Best) → i < placesOf t → m ≡ termsOf t p s (s .snr)
+    → k ≡ knownOf t p s (rungAt t i)
+    → z ≡ cond (candidateOf (k .row .limit) (s .echo) i (s .place .0) (k .account .frames) && beats (rateOf m k) b) (Found (place i) (rateOf m k)) b
+    → z ≡ improved (candidate t s) (worth t p s) i b
+same t p s i m k b z h e f g =
+    let v : rateOf m k ≡ value t p s (rungAt t i) = rw (e, f) (valued t p s (rungAt t i)) in
+    rw (g, v, f, lt-ltb i (placesOf t) h) refl
 
 abbrev Inv-loop : tie.InvT-loop
-Inv-loop t p s best₀ places i₀ best i = (i ≤ placesOf t) × (greatest (placesOf t - i) i (candidate t s) (worth t p s) best ≡ choose t p s)
+Inv-loop p t s terms echo here places best₀ i₀ best i = (i ≤ placesOf t) × (greatest (placesOf t - i) i (candidate t s) (worth t p s) best ≡ choose t p s)
 
 abbrev μ-loop : tie.MeasureT-loop
-μ-loop t p s best₀ places i₀ best i = placesOf t - i
+μ-loop p t s terms echo here places best₀ i₀ best i = placesOf t - i
+
+terms-of-requires : tie.Need-terms-of-requires Inv-loop μ-loop
+terms-of-requires c κs = search needs
 
 places-of-requires : tie.Need-places-of-requires Inv-loop μ-loop
 places-of-requires c κs = search needs
 
 loop-holds : tie.Need-loop-holds Inv-loop μ-loop
 unfolding choose
-loop-holds c = let a = c .before .args in (omega arith, start (candidate (a .t) (a .s)) (worth (a .t) (a .p) (a .s)) (placesOf (a .t)) NoneYet)
+loop-holds c =
+    let a = c .before .before .before .args in
+    (omega arith, start (candidate (a .t1) (a .t3)) (worth (a .t1) (a .p) (a .t3)) (placesOf (a .t1)) NoneYet)
+
+cast-at : tie.Need-cast-at Inv-loop μ-loop
+cast-at c = search needs
+
+mul-r : tie.Need-mul-r Inv-loop μ-loop
+mul-r c = search needs
+
+element-copy-out-r : tie.Need-element-copy-out-r Inv-loop μ-loop
+element-copy-out-r c = search needs
+
+burst-or-requires : tie.Need-burst-or-requires Inv-loop μ-loop
+burst-or-requires c κs = search needs
+
+cast-k : tie.Need-cast-k Inv-loop μ-loop
+cast-k c = search needs
+
+mul-known-by : tie.Need-mul-known-by Inv-loop μ-loop
+mul-known-by c = search needs
+
+element-copy-out-known-by : tie.Need-element-copy-out-known-by Inv-loop μ-loop
+element-copy-out-known-by c = search needs
+
+mul-known-by-2 : tie.Need-mul-known-by-2 Inv-loop μ-loop
+mul-known-by-2 c = search needs
+
+element-copy-out-known-by-2 : tie.Need-element-copy-out-known-by-2 Inv-loop μ-loop
+element-copy-out-known-by-2 c = search needs
+
+known-by-requires : tie.Need-known-by-requires Inv-loop μ-loop
+known-by-requires c κs = search needs
 
 improve-requires : tie.Need-improve-requires Inv-loop μ-loop
 improve-requires c κs = search needs
@@ -41,10 +88,26 @@ loop-less : tie.Need-loop-less Inv-loop μ-loop
 loop-less c = omega arith
 
 loop-again : tie.Need-loop-again Inv-loop μ-loop
-loop-again c = let b = c .before .before .before .before in let a = b .args in let l = c .before .before .loop in (omega arith, turn (candidate (a .t) (a .s)) (worth (a .t) (a .p) (a .s)) (placesOf (a .t)) (l .i) (l .best) (c .improve .result) (omega arith) (c .improve .ensures) ∙ l .inv .1)
+loop-again c =
+    let b = c .before .before .before .before .before in
+    let d = b .before .before .before .before in
+    let e = d .before .before .before .before in
+    let a = e .args in
+    let l = d .loop in
+    let r = rungAt (a .t1) (l .i) in
+    let h : l .i < placesOf (a .t1) = omega (arith, b .before .before .before .loop-test .taken, d .before .places-of .ensures) in
+    let rows : length (a .t1 .rows) ≡ 32 = (let g = e .good .0 in search (needs, of-parts)) in
+    let accounts : length (a .t3 .accounts) ≡ 32 = (let g = e .good .1 .1 .0 in search (needs, of-parts)) in
+    let k : c .before .known-by .result ≡ knownOf (a .t1) (a .p) (a .t3) r = rw (c .before .known-by .ensures, b .burst-or .ensures) (read (a .t1) (a .p) (a .t3) r rows accounts _ _) in
+    let z = same (a .t1) (a .p) (a .t3) (l .i) (d .before .before .before .terms-of .result) (c .before .known-by .result) (l .best) (c .improve .result) h (d .before .before .before .terms-of .ensures) k (c .improve .ensures) in
+    (omega (arith, h), turn (candidate (a .t1) (a .t3)) (worth (a .t1) (a .p) (a .t3)) (placesOf (a .t1)) (l .i) (l .best) (c .improve .result) h z ∙ l .inv .1)
 
 returns : tie.Need-returns Inv-loop μ-loop
-returns c = let a = c .before .before .before .args in let l = c .before .loop in done (candidate (a .t) (a .s)) (worth (a .t) (a .p) (a .s)) (placesOf (a .t)) (l .i) (l .best) (omega arith) ∙ l .inv .1
+returns c =
+    let b = c .before .before .before .before .before in
+    let a = b .args in
+    let l = c .before .loop in
+    done (candidate (a .t1) (a .t3)) (worth (a .t1) (a .p) (a .t3)) (placesOf (a .t1)) (l .i) (l .best) (omega arith) ∙ l .inv .1
 
 pub choose-place-spec : {M : Type 1} → statement M
 choose-place-spec =
@@ -52,8 +115,19 @@ choose-place-spec =
     (tie.spec
     Inv-loop
     μ-loop
+    terms-of-requires
     places-of-requires
     loop-holds
+    cast-at
+    mul-r
+    element-copy-out-r
+    burst-or-requires
+    cast-k
+    mul-known-by
+    element-copy-out-known-by
+    mul-known-by-2
+    element-copy-out-known-by-2
+    known-by-requires
     improve-requires
     add-i
     loop-less

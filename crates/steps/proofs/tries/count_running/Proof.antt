@@ -20,14 +20,19 @@ end-try-requires c κs = search needs
 
 returns : tie.Need-returns
 unfolding counted
-returns c = let a = c .before .before .before .args in rw (c .end-try .ensures, c .before .before .with-trying .ensures, le-leb 3 (a .frames + a .n) (c .before .if1 .taken)) refl
+returns c =
+    let a = c .before .before .before .args in
+    rw (c .end-try .ensures, c .before .before .with-trying .ensures, le-leb 3 (a .frames + a .n) (c .before .if1 .taken)) refl
 
 end-try-requires-2 : tie.Need-end-try-requires-2
 end-try-requires-2 c κs = search needs
 
 returns-2 : tie.Need-returns-2
 unfolding counted
-returns-2 c = let b = c .before .before .before .before in let a = b .args in rw (c .end-try2 .ensures, c .before .before .before .with-trying .ensures, lt-leb 3 (a .frames + a .n) (c .before .before .if1 .left), le-leb 6 (suc (a .calls)) (omega arith)) refl
+returns-2 c =
+    let b = c .before .before .before .before in
+    let a = b .args in
+    rw (c .end-try2 .ensures, c .before .before .before .with-trying .ensures, lt-leb 3 (a .frames + a .n) (c .before .before .if1 .left), le-leb 6 (suc (a .calls)) (omega arith)) refl
 
 add-t14 : tie.Need-add-t14
 add-t14 c = search needs
@@ -40,7 +45,10 @@ with-trying-requires-2 c κs = search needs
 
 returns-3 : tie.Need-returns-3
 unfolding counted
-returns-3 c = let b = c .before .before .before .before in let a = b .args in rw (c .with-trying2 .ensures, lt-leb 3 (a .frames + a .n) (c .before .before .if1 .left), lt-leb 6 (suc (a .calls)) (omega arith), add-one (a .calls)) refl
+returns-3 c =
+    let b = c .before .before .before .before in
+    let a = b .args in
+    rw (c .with-trying2 .ensures, lt-leb 3 (a .frames + a .n) (c .before .before .if1 .left), lt-leb 6 (suc (a .calls)) (omega arith), add-one (a .calls)) refl
 
 pub count-running-spec : {M : Type 1} → statement M
 count-running-spec =

@@ -31,11 +31,15 @@ decide-try-requires c κs = search needs
 
 returns : tie.Need-returns
 unfolding decide
-returns c = let b = c .before .before .before .before .before in rw (c .still-at .ensures, c .before .with-trying .ensures, c .before .before .with-place .ensures, ← b .choose-place .ensures, c .before .before .before .enum-told .given .1) refl
+returns c =
+    let b = c .before .before .before .before .before in
+    rw (c .still-at .ensures, c .before .with-trying .ensures, c .before .before .with-place .ensures, ← b .choose-place .ensures, c .before .before .before .enum-told .given .1) refl
 
 returns-2 : tie.Need-returns-2
 unfolding decide
-returns-2 c = let b = c .before .before .before .before .before in rw (c .decide-try .ensures, c .before .with-place2 .ensures, ← b .choose-place .ensures, c .before .before .before .best .given .1) refl
+returns-2 c =
+    let b = c .before .before .before .before .before in
+    rw (c .decide-try .ensures, c .before .with-place2 .ensures, ← b .choose-place .ensures, c .before .before .before .best .given .1) refl
 
 pub decide-spec : {M : Type 1} → statement M
 decide-spec =

@@ -20,7 +20,8 @@ returns : tie.Need-returns
 returns c = rw (c .still-at .ensures, ← c .before .before .goes-on .ensures, c .before .if1 .taken) refl
 
 returns-2 : tie.Need-returns-2
-returns-2 c = rw (c .still-at2 .ensures, c .before .with-trying .ensures, ← c .before .before .before .goes-on .ensures, c .before .before .if1 .left) refl
+returns-2 c =
+    rw (c .still-at2 .ensures, c .before .with-trying .ensures, ← c .before .before .before .goes-on .ensures, c .before .before .if1 .left) refl
 
 pub decide-running-spec : {M : Type 1} → statement M
 decide-running-spec =

@@ -14,7 +14,8 @@ is-worth-trying-requires : tie.Need-is-worth-trying-requires
 is-worth-trying-requires c κs = search needs
 
 returns : tie.Need-returns
-returns c = rw (c .is-worth-trying .ensures, c .before .rung-above .ensures, ← c .before .before .before .is-above-usable .ensures, c .before .before .if1 .taken) refl
+returns c =
+    rw (c .is-worth-trying .ensures, c .before .rung-above .ensures, ← c .before .before .before .is-above-usable .ensures, c .before .before .if1 .taken) refl
 
 returns-2 : tie.Need-returns-2
 returns-2 c = rw (← c .before .is-above-usable .ensures, c .if1 .left) refl

@@ -21,11 +21,15 @@ win-requires c κs = search needs
 
 returns-2 : tie.Need-returns-2
 unfolding endTry
-returns-2 c = let b = c .before .before .before .before in rw (c .win .ensures, c .before .before .before .judge-try .ensures, ne-eqb (b .before .args .frames) 0 (b .if1 .left), ← c .before .before .is-better .ensures, c .before .if2 .taken) refl
+returns-2 c =
+    let b = c .before .before .before .before in
+    rw (c .win .ensures, c .before .before .before .judge-try .ensures, ne-eqb (b .before .args .frames) 0 (b .if1 .left), ← c .before .before .is-better .ensures, c .before .if2 .taken) refl
 
 returns-3 : tie.Need-returns-3
 unfolding endTry
-returns-3 c = let b = c .before .before .before .before in rw (c .before .before .judge-try .ensures, ne-eqb (b .args .frames) 0 (c .before .before .before .if1 .left), ← c .before .is-better .ensures, c .if2 .left) refl
+returns-3 c =
+    let b = c .before .before .before .before in
+    rw (c .before .before .judge-try .ensures, ne-eqb (b .args .frames) 0 (c .before .before .before .if1 .left), ← c .before .is-better .ensures, c .if2 .left) refl
 
 pub end-try-spec : {M : Type 1} → statement M
 end-try-spec =

@@ -19,7 +19,9 @@ with-time-requires c κs = search needs
 
 returns : tie.Need-returns
 unfolding fullWait
-returns c = let b = c .before .before .before .before in rw (c .with-time .ensures, c .before .wait-seconds .ensures, c .before .before .before .rung-above .ensures, ← b .before .is-above-usable .ensures, b .if1 .taken) refl
+returns c =
+    let b = c .before .before .before .before in
+    rw (c .with-time .ensures, c .before .wait-seconds .ensures, c .before .before .before .rung-above .ensures, ← b .before .is-above-usable .ensures, b .if1 .taken) refl
 
 returns-2 : tie.Need-returns-2
 unfolding fullWait

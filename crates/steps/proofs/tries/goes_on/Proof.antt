@@ -11,7 +11,9 @@ rung-above-requires : tie.Need-rung-above-requires
 rung-above-requires c κs = search needs
 
 returns : tie.Need-returns
-returns c = let b = c .before .before .before .before in rw (c .before .before .rung-above .ensures, ← b .is-above-usable .ensures, c .before .before .before .if1 .taken) refl
+returns c =
+    let b = c .before .before .before .before in
+    rw (c .before .before .rung-above .ensures, ← b .is-above-usable .ensures, c .before .before .before .if1 .taken) refl
 
 returns-2 : tie.Need-returns-2
 returns-2 c = rw (← c .before .is-above-usable .ensures, c .if1 .left) refl

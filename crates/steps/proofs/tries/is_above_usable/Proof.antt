@@ -16,7 +16,10 @@ is-usable-requires : tie.Need-is-usable-requires
 is-usable-requires c κs = search needs
 
 returns : tie.Need-returns
-returns c = let b = c .before .before .before .before .before in let a = b .args in c .is-usable .ensures ∙ ap (usable (a .t) (a .s)) (add-one (a .s .place .0))
+returns c =
+    let b = c .before .before .before .before .before in
+    let a = b .args in
+    c .is-usable .ensures ∙ ap (usable (a .t) (a .s)) (add-one (a .s .place .0))
 
 returns-2 : tie.Need-returns-2
 returns-2 c = let a = c .before .before .before .args in sym (none-past (a .t) (a .s) (suc (a .s .place .0)) (omega arith))

@@ -23,15 +23,21 @@ is-better-requires c κs = search needs
 
 returns : tie.Need-returns
 unfolding cleanClimb
-returns c = let b = c .before .before .before .before in rw (← c .is-better .ensures, ← b .before .before .before .choice-of .ensures, ← b .before .before .is-on .ensures, b .before .if1 .taken, ← b .same-family .ensures, c .before .before .before .if2 .taken, ← c .before .before .wait-of .ensures, eq-eqb (c .before .before .wait-of .result) 6 (c .before .if3 .taken)) refl
+returns c =
+    let b = c .before .before .before .before in
+    rw (← c .is-better .ensures, ← b .before .before .before .choice-of .ensures, ← b .before .before .is-on .ensures, b .before .if1 .taken, ← b .same-family .ensures, c .before .before .before .if2 .taken, ← c .before .before .wait-of .ensures, eq-eqb (c .before .before .wait-of .result) 6 (c .before .if3 .taken)) refl
 
 returns-2 : tie.Need-returns-2
 unfolding cleanClimb
-returns-2 c = let b = c .before .before .before .before in rw (← b .before .before .choice-of .ensures, ← b .before .is-on .ensures, b .if1 .taken, ← c .before .before .before .same-family .ensures, c .before .before .if2 .taken, ← c .before .wait-of .ensures, ne-eqb (c .before .wait-of .result) 6 (c .if3 .left)) refl
+returns-2 c =
+    let b = c .before .before .before .before in
+    rw (← b .before .before .choice-of .ensures, ← b .before .is-on .ensures, b .if1 .taken, ← c .before .before .before .same-family .ensures, c .before .before .if2 .taken, ← c .before .wait-of .ensures, ne-eqb (c .before .wait-of .result) 6 (c .if3 .left)) refl
 
 returns-3 : tie.Need-returns-3
 unfolding cleanClimb
-returns-3 c = let b = c .before .before .before .before in rw (← b .choice-of .ensures, ← c .before .before .before .is-on .ensures, c .before .before .if1 .taken, ← c .before .same-family .ensures, c .if2 .left) refl
+returns-3 c =
+    let b = c .before .before .before .before in
+    rw (← b .choice-of .ensures, ← c .before .before .before .is-on .ensures, c .before .before .if1 .taken, ← c .before .same-family .ensures, c .if2 .left) refl
 
 returns-4 : tie.Need-returns-4
 unfolding cleanClimb

@@ -29,7 +29,9 @@ returns c = rw (c .with-wait .ensures, ← c .before .before .is-better .ensures
 
 returns-2 : tie.Need-returns-2
 unfolding judgeTry
-returns-2 c = let b = c .before .before .before .before in rw (c .with-time .ensures, c .before .with-wait2 .ensures, c .before .before .longer .ensures, c .before .before .before .wait-of .ensures, ← b .before .is-better .ensures, b .if1 .left) refl
+returns-2 c =
+    let b = c .before .before .before .before in
+    rw (c .with-time .ensures, c .before .with-wait2 .ensures, c .before .before .longer .ensures, c .before .before .before .wait-of .ensures, ← b .before .is-better .ensures, b .if1 .left) refl
 
 pub judge-try-spec : {M : Type 1} → statement M
 judge-try-spec =

@@ -36,13 +36,20 @@ places-of-requires : tie.Need-places-of-requires Inv-loop μ-loop
 places-of-requires c κs = search needs
 
 loop-holds : tie.Need-loop-holds Inv-loop μ-loop
-loop-holds c = let a = c .before .args in let q : placesOf (a .t) - 0 ≡ placesOf (a .t) = omega arith in (omega arith, ap (λ (n : ℕ). placeFrom n 0 (a .t) (a .r .0) (a .d)) q)
+loop-holds c =
+    let a = c .before .args in
+    let q : placesOf (a .t) - 0 ≡ placesOf (a .t) = omega arith in
+    (omega arith, ap (λ (n : ℕ). placeFrom n 0 (a .t) (a .r .0) (a .d)) q)
 
 rung-at-requires : tie.Need-rung-at-requires Inv-loop μ-loop
 rung-at-requires c κs = search needs
 
 returns : tie.Need-returns Inv-loop μ-loop
-returns c = let b = c .before .before .before .before .before in let a = b .before .before .args in let l = b .loop in found (a .t) (a .r .0) (a .d) (placesOf (a .t)) (l .i) (omega arith) (omega (arith, c .before .before .before .rung-at .ensures)) ∙ l .inv .1
+returns c =
+    let b = c .before .before .before .before .before in
+    let a = b .before .before .args in
+    let l = b .loop in
+    found (a .t) (a .r .0) (a .d) (placesOf (a .t)) (l .i) (omega arith) (omega (arith, c .before .before .before .rung-at .ensures)) ∙ l .inv .1
 
 add-i : tie.Need-add-i Inv-loop μ-loop
 add-i c = search needs
@@ -51,10 +58,18 @@ loop-less : tie.Need-loop-less Inv-loop μ-loop
 loop-less c = omega arith
 
 loop-again : tie.Need-loop-again Inv-loop μ-loop
-loop-again c = let b = c .before .before .before .before .before in let a = b .before .before .args in let l = b .loop in (omega arith, further (a .t) (a .r .0) (a .d) (placesOf (a .t)) (l .i) (omega arith) (λ e. c .if1 .left (c .before .before .before .rung-at .ensures ∙ e)) ∙ l .inv .1)
+loop-again c =
+    let b = c .before .before .before .before .before in
+    let a = b .before .before .args in
+    let l = b .loop in
+    (omega arith, further (a .t) (a .r .0) (a .d) (placesOf (a .t)) (l .i) (omega arith) (λ e. c .if1 .left (c .before .before .before .rung-at .ensures ∙ e)) ∙ l .inv .1)
 
 returns-2 : tie.Need-returns-2 Inv-loop μ-loop
-returns-2 c = let a = c .before .before .before .args in let l = c .before .loop in let q : placesOf (a .t) - l .i ≡ 0 = omega arith in sym (ap (λ (n : ℕ). placeFrom n (l .i) (a .t) (a .r .0) (a .d)) q) ∙ l .inv .1
+returns-2 c =
+    let a = c .before .before .before .args in
+    let l = c .before .loop in
+    let q : placesOf (a .t) - l .i ≡ 0 = omega arith in
+    sym (ap (λ (n : ℕ). placeFrom n (l .i) (a .t) (a .r .0) (a .d)) q) ∙ l .inv .1
 
 pub place-of-spec : {M : Type 1} → statement M
 place-of-spec =

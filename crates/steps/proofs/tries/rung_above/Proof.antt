@@ -17,10 +17,15 @@ rung-at-requires : tie.Need-rung-at-requires
 rung-at-requires c κs = search needs
 
 returns : tie.Need-returns
-returns c = let b = c .before .before .before .before .before in let a = b .args in c .rung-at .ensures ∙ ap (rungAt (a .t)) (add-one (a .s .place .0))
+returns c =
+    let b = c .before .before .before .before .before in
+    let a = b .args in
+    c .rung-at .ensures ∙ ap (rungAt (a .t)) (add-one (a .s .place .0))
 
 returns-2 : tie.Need-returns-2
-returns-2 c = let a = c .before .before .before .args in ap (λ (x : Rung). x .0) (outside (a .t .front) (suc (a .s .place .0)) (search (needs, of-parts)) (rung 0) (omega arith))
+returns-2 c =
+    let a = c .before .before .before .args in
+    ap (λ (x : Rung). x .0) (outside (a .t .front) (suc (a .s .place .0)) (search (needs, of-parts)) (rung 0) (omega arith))
 
 pub rung-above-spec : {M : Type 1} → statement M
 rung-above-spec = tie.close (tie.spec add-t6 rung-at-requires returns returns-2)
