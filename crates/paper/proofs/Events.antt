@@ -1,10 +1,11 @@
 -- A walk over the events of a file, at i: the calls from the i-th on, with their lines and their scores. Assumes nothing.
-use mathlib.Core.Path.{_≡_, refl, ap, _∙_}
+use mathlib.Core.Path.{_≡_, refl, sym, ap, _∙_}
 use mathlib.Core.Bool.{Bool, true, false, cond}
 use mathlib.Core.List.{List, [], _∷_}
 use Prim.Native.Nat.{ℕ, zero, suc, _+_, _-_, _≤_, _<_}
 use native.Mathlib.Numerals.{add-one}
 use native.Mathlib.Omega.{arith}
+use borrow.Author.Tests.{leb-true, leb-false}
 use lib.Dec.{eqb}
 use lib.ListN.{length, getD, drop}
 use lib.Seq.{drop-cons}
@@ -16,7 +17,7 @@ use Rattle.rate.specs.declared.types.Answer.{Answer}
 use Rattle.rate.specs.Calls.{Call, step}
 use Rattle.rate.specs.Reads.{choiceOf}
 use Rattle.paper.specs.Body.{callOf}
-use Rattle.paper.specs.File.{eventCount, air, bodyAt}
+use Rattle.paper.specs.File.{eventCount, air, bodyAt, atEnd}
 use Rattle.paper.specs.Sheet.{Line, Score, freshFor, callAt, callsOf, lineOf, lineBytes, linesFrom, sheetOf, scoredBy, scored, scoreFrom, scoreOf}
 use Rattle.paper.proofs.Over.{Next}
 
@@ -46,6 +47,13 @@ unfolding callAt
 answer-at s i k a body e f = e ∙ ap (λ b. step k (callOf b)) f
 
 -- ---- lines
+-- the end test's answer b, at the i-th event
+pub before-end : (s : List ℕ) (i : ℕ) (b : Bool) → b ≡ atEnd s i → b ≡ false → i < eventCount s
+before-end s i b e f = leb-false (eventCount s) i (sym e ∙ f)
+
+pub past-end : (s : List ℕ) (i : ℕ) (b : Bool) → b ≡ atEnd s i → b ≡ true → eventCount s ≤ i
+past-end s i b e f = leb-true (eventCount s) i (sym e ∙ f)
+
 pub lines-start : (s : List ℕ) (n m : ℕ) (k : RateController) → n ≡ eventCount s → m ≡ air s → k ≡ freshFor m → linesFrom k 1 (callsFrom s n 0) ≡ sheetOf s
 unfolding sheetOf
 lines-start s n m k e f g = rw (calls-start s n e, g, f)

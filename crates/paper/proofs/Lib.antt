@@ -10,3 +10,4 @@ pub mod Held
 pub mod Events
 pub mod Starting
 pub mod Printed
+pub mod Readers

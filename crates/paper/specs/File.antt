@@ -48,6 +48,10 @@ okPairs s = leb (pairsEnd s) (length s) && chained s (eventCount s) 0 (pairsEnd 
 unfoldable pub bodyAt : List ℕ → ℕ → List ℕ
 bodyAt s i = take (lengthAt s i) (drop (offsetAt s i) s)
 
+-- "next body and end test only": whether a reader whose next pair is the i-th has read them all
+abbrev pub atEnd : List ℕ → ℕ → Bool
+atEnd s i = leb (eventCount s) i
+
 -- 12: "a body breaks its kind's form"
 unfoldable pub okBodyAt : List ℕ → ℕ → Bool
 okBodyAt s i = okBody (bodyAt s i)

@@ -1,6 +1,7 @@
 // A question file: its header, its pairs and the bodies of its events. Each function answers for every list of bytes.
 ghost use mathlib.Core.Path.{_≡_};
-ghost use Rattle.paper.specs.File.{eventCount, air, knownAir, okHeader, offsetAt, lengthAt, okPairs, bodyAt, okBodies, fileVerdict};
+ghost use Prim.Native.Nat.{_<_};
+ghost use Rattle.paper.specs.File.{eventCount, air, knownAir, okHeader, offsetAt, lengthAt, okPairs, bodyAt, atEnd, okBodies, fileVerdict};
 use crate::body::ok_body;
 use crate::bytes::part;
 use crate::bytes::past;
@@ -82,6 +83,13 @@ pub fn body_at(file: &[u8], i: u32) -> &[u8]
     let at = offset_at(file, i) as usize;
     let len = length_at(file, i) as usize;
     part(file, at, len)
+}
+
+// Whether the i-th event, from 0, is past the last; and that the count is a u32, so that a number below it has a next.
+pub fn end_at(file: &[u8], i: u32) -> bool
+    ensures { λ r. ⌜ (r ≡ atEnd (now (file .entry)) i) × (eventCount (now (file .entry)) < 4294967296) ⌝ }
+{
+    event_count(file) <= i
 }
 
 // Whether each body has its kind's form.

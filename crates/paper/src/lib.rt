@@ -6,6 +6,7 @@ pub mod event;
 pub mod file;
 mod lines;
 pub mod mark;
+mod reader;
 pub mod sheet;
 mod start;
 mod text;

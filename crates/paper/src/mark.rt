@@ -8,9 +8,10 @@ ghost use Rattle.paper.specs.File.{eventCount};
 ghost use Rattle.paper.specs.Sheet.{scored, scoreOf, markAnswer};
 use crate::event::answer_event;
 use crate::file::air;
-use crate::file::body_at;
 use crate::file::event_count;
 use crate::file::file_verdict;
+use crate::reader::read_body;
+use crate::reader::read_end;
 use crate::start::fresh_for;
 use crate::types::Marked;
 use crate::types::Score;
@@ -50,19 +51,20 @@ fn score_all(file: &[u8], answers: &[u8]) -> Score
     requires { ⌜ length (now answers) ≡ eventCount (now file) ⌝ }
     ensures { λ r. ⌜ r ≡ scoreOf (now (file .entry)) (now (answers .entry)) ⌝ }
 {
-    let n = event_count(file);
     let mut k = fresh_for(air(file));
     let mut m = Score {
         right: 0,
         counted: 0,
     };
-    for i in 0..n {
-        let a = answer_event(k, body_at(file, i));
+    let mut i: u32 = 0;
+    while !read_end(file, i) {
+        let a = answer_event(k, read_body(file, i));
         let at = i as usize;
         let scored = score(m, a, answers[at]);
         m = scored;
         let next = a.controller;
         k = next;
+        i += 1;
     }
     m
 }

@@ -6,13 +6,13 @@ ghost use Rattle.paper.specs.Lines.{over};
 ghost use Rattle.paper.specs.Sheet.{lineOf, sheetOf, sheetAnswer, sheetLeft, refusedBytes, fitting, printedIn};
 use crate::event::answer_event;
 use crate::file::air;
-use crate::file::body_at;
-use crate::file::event_count;
 use crate::file::file_verdict;
 use crate::lines::line_length;
 use crate::lines::refused_length;
 use crate::lines::write_line;
 use crate::lines::write_refused;
+use crate::reader::read_body;
+use crate::reader::read_end;
 use crate::start::fresh_for;
 use crate::types::Line;
 use crate::types::Sheet;
@@ -43,15 +43,16 @@ fn line_of(a: Answer) -> Line
 fn sheet_length(file: &[u8]) -> usize
     ensures { λ r. ⌜ r ≡ length (sheetOf (now (file .entry))) ⌝ }
 {
-    let n = event_count(file);
     let mut k = fresh_for(air(file));
     let mut total: usize = 0;
-    for i in 0..n {
-        let a = answer_event(k, body_at(file, i));
+    let mut i: u32 = 0;
+    while !read_end(file, i) {
+        let a = answer_event(k, read_body(file, i));
         let line = line_of(a);
         total += line_length(i + 1, line);
         let next = a.controller;
         k = next;
+        i += 1;
     }
     total
 }
@@ -62,16 +63,17 @@ fn write_lines(file: &[u8], out: &mut [u8]) -> usize
     ensures { λ r. ⌜ r ≡ length (sheetOf (now (file .entry))) ⌝ }
     ensures { λ r. ⌜ now (out .exit) ≡ over (sheetOf (now (file .entry))) (now (out .entry)) ⌝ }
 {
-    let n = event_count(file);
     let mut k = fresh_for(air(file));
     let mut len: usize = 0;
-    for i in 0..n {
-        let a = answer_event(k, body_at(file, i));
+    let mut i: u32 = 0;
+    while !read_end(file, i) {
+        let a = answer_event(k, read_body(file, i));
         let line = line_of(a);
         let took = write_line(&mut out[len..], i + 1, line);
         len += took;
         let next = a.controller;
         k = next;
+        i += 1;
     }
     len
 }

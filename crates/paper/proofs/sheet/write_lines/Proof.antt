@@ -1,21 +1,21 @@
 -- `sheet::write_lines` meets its contract. The invariant: the lines below the i-th stand over the start of the slice, and the others are left. Assumes nothing.
-use Prim.Native.Nat.{_+_, _-_, _≤_}
+use mathlib.Core.Path.{refl}
+use Prim.Native.Nat.{_+_, _-_, _<_, _≤_}
 use native.Mathlib.Omega.{arith}
 use Rattle.paper.specs.Sheet.{lineBytes, linesFrom, sheetOf}
 use Rattle.paper.proofs.Over.{Next, Partly, partly-start, partly-within, partly-room, partly-next, partly-end}
-use Rattle.paper.proofs.Events.{callsFrom, answer-at, lines-start, lines-next, lines-end}
+use Rattle.paper.proofs.Events.{before-end, past-end, callsFrom, answer-at, lines-start, lines-next, lines-end}
 use borrow.Author.Needs.{needs}
+use borrow.Author.Tests.{not-true, not-false}
+use Rattle.paper.specs.File.{eventCount}
 use Rattle.paper.proofs.sheet.write_lines.Statement.{statement}
 use Rattle.paper.proofs.sheet.write_lines.Tie as tie
 
 abbrev Inv-loop : tie.InvT-loop
-Inv-loop file out₀ n k₀ len₀ i₀ out k len i = (i ≤ n) × Partly (sheetOf file) (linesFrom k (i + 1) (callsFrom file n i)) out₀ len out
+Inv-loop file out₀ k₀ len₀ i₀ out k len i = (i ≤ eventCount file) × Partly (sheetOf file) (linesFrom k (i + 1) (callsFrom file (eventCount file) i)) out₀ len out
 
 abbrev μ-loop : tie.MeasureT-loop
-μ-loop file out₀ n k₀ len₀ i₀ out k len i = n - i
-
-event-count-requires : tie.Need-event-count-requires Inv-loop μ-loop
-event-count-requires c κs = search needs
+μ-loop file out₀ k₀ len₀ i₀ out k len i = eventCount file - i
 
 air-requires : tie.Need-air-requires Inv-loop μ-loop
 air-requires c κs = search needs
@@ -24,10 +24,18 @@ fresh-for-requires : tie.Need-fresh-for-requires Inv-loop μ-loop
 fresh-for-requires c κs = search needs
 
 loop-holds : tie.Need-loop-holds Inv-loop μ-loop
-loop-holds c = (search needs, rw (lines-start (c .before .before .before .before .before .args .file .now) _ _ _ (c .before .before .event-count .ensures) (c .before .air .ensures) (c .fresh-for .ensures)) (partly-start _ _))
+loop-holds c = (search needs, rw (lines-start (c .before .before .before .before .args .file .now) _ _ _ refl (c .before .air .ensures) (c .fresh-for .ensures)) (partly-start _ _))
 
-body-at-requires : tie.Need-body-at-requires Inv-loop μ-loop
-body-at-requires c κs = search needs
+read-end-requires : tie.Need-read-end-requires Inv-loop μ-loop
+read-end-requires c κs = search needs
+
+read-body-requires : tie.Need-read-body-requires Inv-loop μ-loop
+read-body-requires c κs = search needs
+
+-- an event is left, and the count is a u32
+less : (c : tie.After-read-body Inv-loop μ-loop)
+    → (c .before .before .before .loop .i < eventCount (c .before .before .before .before .before .before .before .before .args .file .now)) × (eventCount (c .before .before .before .before .before .before .before .before .args .file .now) < 4294967296)
+less c = (before-end _ _ _ (c .before .before .read-end .ensures .0) (not-true _ (c .before .if1 .taken)), c .before .before .read-end .ensures .1)
 
 answer-event-requires : tie.Need-answer-event-requires Inv-loop μ-loop
 answer-event-requires c κs = search needs
@@ -38,51 +46,52 @@ line-of-requires c κs = search needs
 -- the line that is next
 next : (c : tie.After-line-of Inv-loop μ-loop)
     → let file = c .before .before .before .before .before .before .before .before .before .before .args .file .now in
-    let n = c .before .before .before .before .before .before .before .event-count .result in
-    let l = c .before .before .before .before .loop in
+    let n = eventCount file in
+    let l = c .before .before .before .before .before .loop in
     Next (linesFrom (l .k) (l .i + 1) (callsFrom file n (l .i))) (lineBytes (l .i + 1) (c .line-of .result)) (linesFrom (c .before .answer-event .result .controller) (l .i + 1 + 1) (callsFrom file n (l .i + 1)))
 next c =
     let file = c .before .before .before .before .before .before .before .before .before .before .args .file .now in
-    let l = c .before .before .before .before .loop in
-    lines-next file _ (l .i) (l .i + 1) (l .k) _ _ (c .before .before .before .loop-test .taken) (answer-at file (l .i) (l .k) _ _ (c .before .answer-event .ensures) (c .before .before .body-at .ensures)) (c .line-of .ensures)
+    let l = c .before .before .before .before .before .loop in
+    lines-next file _ (l .i) (l .i + 1) (l .k) _ _ (less (c .before .before) .0) (answer-at file (l .i) (l .k) _ _ (c .before .answer-event .ensures) (c .before .before .read-body .ensures)) (c .line-of .ensures)
 
 sub-write-line : tie.Need-sub-write-line Inv-loop μ-loop
-sub-write-line c = partly-within (c .before .before .before .before .loop .inv .1) .0
+sub-write-line c = partly-within (c .before .before .before .before .before .loop .inv .1) .0
 
 part-write-line-start : tie.Need-part-write-line-start Inv-loop μ-loop
-part-write-line-start c = partly-within (c .before .before .before .before .loop .inv .1) .0
+part-write-line-start c = partly-within (c .before .before .before .before .before .loop .inv .1) .0
 
 part-write-line-end : tie.Need-part-write-line-end Inv-loop μ-loop
 part-write-line-end c = search needs
 
 add-write-line : tie.Need-add-write-line Inv-loop μ-loop
-add-write-line c = search needs
+add-write-line c = search (needs, less (c .before .before .before))
 
 write-line-requires : tie.Need-write-line-requires Inv-loop μ-loop
-write-line-requires c κs = partly-room (c .before .before .before .before .before .loop .inv .1) (next (c .before)) (c .before .before .before .before .before .before .before .before .before .before .before .pre) .1
+write-line-requires c κs = partly-room (c .before .before .before .before .before .before .loop .inv .1) (next (c .before)) (c .before .before .before .before .before .before .before .before .before .before .before .pre) .1
 
 add-len : tie.Need-add-len Inv-loop μ-loop
 add-len c =
-    omega (arith, partly-room (c .before .before .before .before .before .before .before .before .loop .inv .1) (next (c .before .before .before .before)) (c .before .before .before .before .before .before .before .before .before .before .before .before .before .before .pre) .0, c .before .before .write-line .ensures .0, c .before .before .before .before .before .before .before .before .before .before .before .before .before .before .good)
+    omega (arith, partly-room (c .before .before .before .before .before .before .before .before .before .loop .inv .1) (next (c .before .before .before .before)) (c .before .before .before .before .before .before .before .before .before .before .before .before .before .before .pre) .0, c .before .before .write-line .ensures .0, c .before .before .before .before .before .before .before .before .before .before .before .before .before .before .good)
 
 add-i : tie.Need-add-i Inv-loop μ-loop
-add-i c = search needs
+add-i c = search (needs, less (c .before .before .before .before .before .before .before))
 
 loop-less : tie.Need-loop-less Inv-loop μ-loop
-loop-less c = search needs
+loop-less c = search (needs, less (c .before .before .before .before .before .before .before))
 
 loop-again : tie.Need-loop-again Inv-loop μ-loop
 loop-again c =
     let e = c .before .before .before .write-line .ensures in
-    (omega arith, partly-next (c .before .before .before .before .before .before .before .before .before .loop .inv .1) (next (c .before .before .before .before .before)) (c .before .before .before .before .before .before .before .before .before .before .before .before .before .before .before .pre) _ _ (e .0) (e .1))
+    (omega (arith, less (c .before .before .before .before .before .before .before)), partly-next (c .before .before .before .before .before .before .before .before .before .before .loop .inv .1) (next (c .before .before .before .before .before)) (c .before .before .before .before .before .before .before .before .before .before .before .before .before .before .before .pre) _ _ (e .0) (e .1))
 
 same-length : tie.Need-same-length Inv-loop μ-loop
-same-length c = partly-within (c .before .loop .inv .1) .1
+same-length c = partly-within (c .before .before .loop .inv .1) .1
 
 returns : tie.Need-returns Inv-loop μ-loop
 returns c =
-    let l = c .before .loop in
-    partly-end (l .inv .1) (lines-end (c .before .before .before .before .before .before .before .args .file .now) (c .before .before .before .before .event-count .result) (l .i) (l .i + 1) (l .k) (c .loop-test .left))
+    let l = c .before .before .loop in
+    let file = c .before .before .before .before .before .before .before .args .file .now in
+    partly-end (l .inv .1) (lines-end file (eventCount file) (l .i) (l .i + 1) (l .k) (past-end _ _ _ (c .before .read-end .ensures .0) (not-false _ (c .if1 .left))))
 
 pub write-lines-spec : {M : Type 1} → statement M
 write-lines-spec =
@@ -90,11 +99,11 @@ write-lines-spec =
     (tie.spec
     Inv-loop
     μ-loop
-    event-count-requires
     air-requires
     fresh-for-requires
     loop-holds
-    body-at-requires
+    read-end-requires
+    read-body-requires
     answer-event-requires
     line-of-requires
     sub-write-line
