@@ -84,6 +84,12 @@ fn whole(text: &str) -> u64 {
     parsed.unwrap_or_else(|_| misused(&format!("`{text}` is no whole number")))
 }
 
+/// Ends a comparison with the line that each ends in, and with status 1 if any differ.
+pub fn ended(name: &str, compared: u64, differences: u64) -> ! {
+    println!("{name}: {compared} compared, {differences} differences");
+    std::process::exit(i32::from(differences > 0));
+}
+
 fn misused(why: &str) -> ! {
     eprintln!("{why}");
     std::process::exit(2);

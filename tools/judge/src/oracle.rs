@@ -155,24 +155,7 @@ fn outcome(frame: &Frame) -> FrameOutcome {
 #[cfg(test)]
 mod tests {
     use super::*;
-
-    fn frame(rung: u8, decoded: bool) -> Frame {
-        Frame {
-            rung,
-            detected: decoded,
-            decoded,
-            combined: false,
-            capacity: 21,
-            air_s: 5.36,
-        }
-    }
-
-    fn sent(frames: Vec<Frame>) -> Event {
-        Event::Frames {
-            snr_db: None,
-            frames,
-        }
-    }
+    use crate::draw::samples::{sample_frame as frame, sent};
 
     fn wide() -> Oracle {
         Oracle::new(&Table::wide(), true).unwrap()

@@ -261,6 +261,7 @@ pub fn file(air: u32, bodies: &[Vec<u8>]) -> Vec<u8> {
 #[cfg(test)]
 mod tests {
     use super::*;
+    use crate::draw::samples::{self, sample_frame as frame, sent};
 
     fn wide(events: &[Event]) -> Vec<u8> {
         let bodies: Vec<Vec<u8>> = events.iter().map(Event::body).collect();
@@ -270,13 +271,7 @@ mod tests {
     /// The sheet that document 01 prints.
     #[test]
     fn printed_example() {
-        let events = [
-            Event::Seed(20.0),
-            Event::Silence(2),
-            Event::Silence(100),
-            Event::Snr(Some(300.0)),
-        ];
-        let file = wide(&events);
+        let file = wide(&samples::printed_example());
         let wanted = "1 19 - 0 0 0\n2 17 - 0 0 0\n3 0 - 0 0 0\n4 refused 8\n";
         assert_eq!(printed(&file), wanted);
         assert_eq!(fitted(Ok(wanted), wanted.len() - 1), Err(13));
@@ -289,18 +284,6 @@ mod tests {
     /// Document 01's examples that are "Checked by a program".
     #[test]
     fn checked_examples() {
-        let frame = |rung, decoded| Frame {
-            rung,
-            detected: decoded,
-            decoded,
-            combined: false,
-            capacity: 21,
-            air_s: 5.36,
-        };
-        let sent = |frames| Event::Frames {
-            snr_db: None,
-            frames,
-        };
         let mut events = vec![sent(vec![frame(0, true)]); 6];
         events.push(sent(vec![frame(1, false); 3]));
         let printed_lines = printed(&wide(&events));

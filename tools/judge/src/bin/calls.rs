@@ -2,12 +2,12 @@
 //! calls, the first of them list FIRST (0). Runs the proved program `trace` (TRACE: its path) on batches of lists and
 //! compares its output byte by byte. Ends with status 1 if any line differs, 2 if there is no `trace`.
 
-use judge::arguments;
 use judge::coverage::Coverage;
 use judge::draw::lists;
 use judge::program::{self, Answered};
 use judge::random::Random;
 use judge::trace::{List, MOST_INPUT, named_words};
+use judge::{arguments, ended};
 use std::path::PathBuf;
 
 /// The most calls of a list.
@@ -25,9 +25,7 @@ fn main() {
     run.batch();
     run.coverage.print();
     println!("{} lists differ", run.lists_differing);
-    let (compared, differences) = (run.compared, run.differences);
-    println!("calls: {compared} compared, {differences} differences");
-    std::process::exit(i32::from(differences > 0));
+    ended("calls", run.compared, run.differences);
 }
 
 /// A run over all lists: the batch being filled, and what was found so far.

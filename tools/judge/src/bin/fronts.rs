@@ -1,10 +1,10 @@
 //! Compares the proved front with the Rust's, and the proved refusals of tables with document 01's causes 1 to 5:
 //! `fronts [SEED] [SIZE]`, about SIZE tables, each given to both calls. Ends with status 1 if any differ.
 
-use judge::arguments;
 use judge::draw::tables;
 use judge::random::Random;
 use judge::table::Table;
+use judge::{arguments, ended};
 use std::fmt::Display;
 
 #[link(name = "exports", kind = "static")]
@@ -46,9 +46,7 @@ fn main() {
     let mut run = Run::new(seed);
     run.all(size as usize);
     run.sizes();
-    let (compared, differences) = (run.compared, run.differences);
-    println!("fronts: {compared} compared, {differences} differences");
-    std::process::exit(i32::from(differences > 0));
+    ended("fronts", run.compared, run.differences);
 }
 
 /// A run over every class: where it is, and what it found.

@@ -4,7 +4,7 @@
 use judge::bits::{Tally, same};
 use judge::inputs::{self, Class, Triple};
 use judge::random::Random;
-use judge::{arguments, rate, standin};
+use judge::{arguments, ended, rate, standin};
 use std::fmt::Display;
 
 #[link(name = "exports", kind = "static")]
@@ -27,10 +27,8 @@ fn main() {
     run.values("half", &inputs::halves(), rate_half, standin::half);
     run.values("exp", &inputs::powers(), rate_exp, standin::exp);
     run.probabilities();
-    let (compared, differences) = (run.compared, run.differences);
     println!("the Rust's own decode_probability: {} compared", run.rust);
-    println!("numbers: {compared} compared, {differences} differences");
-    std::process::exit(i32::from(differences > 0));
+    ended("numbers", run.compared, run.differences);
 }
 
 /// A run over every class: where it is, and what it found.

@@ -3,11 +3,11 @@
 //! output slices of several lengths, and to the proved marking with answers of several counts. Ends with status 1 if any
 //! differ.
 
-use judge::arguments;
 use judge::draw::papers::{self, Question};
 use judge::event::KINDS;
 use judge::paper::{BUFFER, Paper, fitted};
 use judge::random::Random;
+use judge::{arguments, ended};
 use std::fmt::Display;
 
 #[link(name = "exports", kind = "static")]
@@ -40,9 +40,7 @@ fn main() {
         run.drawn(number);
     }
     run.print();
-    let (compared, differences) = (run.compared, run.differences);
-    println!("papers: {compared} compared, {differences} differences");
-    std::process::exit(i32::from(differences > 0));
+    ended("papers", run.compared, run.differences);
 }
 
 /// A run over all papers, and what it found.

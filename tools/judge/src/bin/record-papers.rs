@@ -3,7 +3,8 @@
 //! The sheet is what the program `sheet` prints.
 
 use judge::draw::papers::{self, Question};
-use judge::event::{Event, Frame};
+use judge::draw::samples::{printed_example, sample_frame, sent};
+use judge::event::Event;
 use judge::paper::{self, Paper};
 use judge::random::Random;
 use judge::{arguments_after, path_arguments};
@@ -75,7 +76,7 @@ fn fits(question: &Question, wanted: u32) -> bool {
 /// Document 01's own examples, on the wide air.
 fn examples() -> Vec<Question> {
     let tried = [vec![one(0, true); 6], vec![lost_try()]].concat();
-    let frame = frame(0, true);
+    let frame = sample_frame(0, true);
     let lists = [256, 257].map(|count| sent(vec![frame; count]));
     vec![
         example("printed example", &printed_example()),
@@ -93,35 +94,10 @@ fn example(name: &'static str, events: &[Event]) -> Question {
     Question { name, file }
 }
 
-fn printed_example() -> Vec<Event> {
-    vec![
-        Event::Seed(20.0),
-        Event::Silence(2),
-        Event::Silence(100),
-        Event::Snr(Some(300.0)),
-    ]
-}
-
-const fn frame(rung: u8, decoded: bool) -> Frame {
-    Frame {
-        rung,
-        detected: decoded,
-        decoded,
-        combined: false,
-        capacity: 21,
-        air_s: 5.36,
-    }
-}
-
-const fn sent(frames: Vec<Frame>) -> Event {
-    let snr_db = None;
-    Event::Frames { snr_db, frames }
-}
-
 fn one(rung: u8, decoded: bool) -> Event {
-    sent(vec![frame(rung, decoded)])
+    sent(vec![sample_frame(rung, decoded)])
 }
 
 fn lost_try() -> Event {
-    sent(vec![frame(1, false); 3])
+    sent(vec![sample_frame(1, false); 3])
 }

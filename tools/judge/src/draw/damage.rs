@@ -172,7 +172,7 @@ fn set_first(random: &mut Random, bodies: &mut Bodies, kind: u8) {
 
 /// A new list of a few frames.
 fn some_frames<'a>(random: &mut Random, bodies: &'a mut Bodies) -> &'a mut Vec<u8> {
-    let frames = vec![sample_frame(); random.among(1, 4)];
+    let frames = vec![sample_frame(0, true); random.among(1, 4)];
     let snr_db = random.one(&[None, Some(3.0)]);
     put(random, bodies, Event::Frames { snr_db, frames }.body())
 }

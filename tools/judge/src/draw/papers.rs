@@ -139,7 +139,7 @@ fn sized(random: &mut Random, size: usize) -> Vec<u8> {
         bodies.pop();
     }
     while length(&bodies) + 8000 < size {
-        let frames = vec![sample_frame(); random.among(1, 500)];
+        let frames = vec![sample_frame(0, true); random.among(1, 500)];
         let snr_db = None;
         bodies.push(Event::Frames { snr_db, frames }.body());
     }

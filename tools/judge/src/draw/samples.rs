@@ -8,7 +8,7 @@ pub fn sample_event(kind: u8) -> Event {
     match kind {
         1 => Event::Frames {
             snr_db: Some(3.0),
-            frames: vec![sample_frame(); 2],
+            frames: vec![sample_frame(0, true); 2],
         },
         2 => Event::Echo {
             share: Some(0.5),
@@ -30,12 +30,28 @@ pub fn sample_event(kind: u8) -> Event {
     }
 }
 
-/// A frame that decodes at the lowest wide rung.
-pub const fn sample_frame() -> Frame {
+/// The events of the sheet that document 01 prints.
+pub fn printed_example() -> [Event; 4] {
+    [
+        Event::Seed(20.0),
+        Event::Silence(2),
+        Event::Silence(100),
+        Event::Snr(Some(300.0)),
+    ]
+}
+
+/// A transmission without an SNR reading, as in document 01's checked examples.
+pub const fn sent(frames: Vec<Frame>) -> Event {
+    let snr_db = None;
+    Event::Frames { snr_db, frames }
+}
+
+/// A frame of document 01's checked examples: "air 5.36, capacity 21", heard if it decodes.
+pub const fn sample_frame(rung: u8, decoded: bool) -> Frame {
     Frame {
-        rung: 0,
-        detected: true,
-        decoded: true,
+        rung,
+        detected: decoded,
+        decoded,
         combined: false,
         capacity: 21,
         air_s: 5.36,
@@ -48,10 +64,7 @@ pub fn short_event(random: &mut Random) -> Event {
         0 => Event::Silence(random.below(3) as u32),
         1 => Event::Snr(Some(random.span(-20.0, 20.0))),
         2 => Event::Seed(random.span(-20.0, 20.0)),
-        3 => Event::Frames {
-            snr_db: None,
-            frames: vec![sample_frame()],
-        },
+        3 => sent(vec![sample_frame(0, true)]),
         _ => Event::Families {
             own_floor: random.chance(50),
             other_floor: random.chance(50),
