@@ -1,13 +1,10 @@
-// A question file: its header, its pairs and the bodies of its events. Each function answers for every list of bytes.
+// A question file: its header, its pairs and where the bodies of its events stand. Each function answers for every list of bytes.
 ghost use mathlib.Core.Path.{_≡_};
 ghost use Prim.Native.Nat.{_<_};
-ghost use Rattle.paper.specs.File.{eventCount, air, knownAir, okHeader, offsetAt, lengthAt, okPairs, bodyAt, atEnd, okBodies, fileVerdict};
-use crate::body::ok_body;
+ghost use Rattle.paper.specs.File.{eventCount, air, knownAir, okHeader, offsetAt, lengthAt, okPairs, bodyAt, atEnd};
 use crate::bytes::part;
 use crate::bytes::past;
 use crate::bytes::u32_of;
-use limits::refusal::Refusal;
-use limits::refusal::Verdict;
 
 // How many events the file has.
 pub fn event_count(file: &[u8]) -> u32
@@ -30,7 +27,7 @@ fn known_air(n: u32) -> bool
 }
 
 // Whether the file's size, air and event count are known.
-fn ok_header(file: &[u8]) -> bool
+pub(crate) fn ok_header(file: &[u8]) -> bool
     ensures { λ r. ⌜ r ≡ okHeader (now (file .entry)) ⌝ }
 {
     if file.len() < 8 {
@@ -59,7 +56,7 @@ fn length_at(file: &[u8], i: u32) -> u32
 }
 
 // Whether the bodies follow the pairs and each other to the file's end.
-fn ok_pairs(file: &[u8]) -> bool
+pub(crate) fn ok_pairs(file: &[u8]) -> bool
     ensures { λ r. ⌜ r ≡ okPairs (now (file .entry)) ⌝ }
 {
     let n = event_count(file);
@@ -90,33 +87,4 @@ pub fn end_at(file: &[u8], i: u32) -> bool
     ensures { λ r. ⌜ (r ≡ atEnd (now (file .entry)) i) × (eventCount (now (file .entry)) < 4294967296) ⌝ }
 {
     event_count(file) <= i
-}
-
-// Whether each body has its kind's form.
-fn ok_bodies(file: &[u8]) -> bool
-    ensures { λ r. ⌜ r ≡ okBodies (now (file .entry)) ⌝ }
-{
-    let n = event_count(file);
-    for i in 0..n {
-        if !ok_body(body_at(file, i)) {
-            return false;
-        }
-    }
-    true
-}
-
-// Whether the file is a question file: refusals 10, 11 and 12, the lowest that applies.
-pub fn file_verdict(file: &[u8]) -> Verdict
-    ensures { λ r. ⌜ r ≡ fileVerdict (now (file .entry)) ⌝ }
-{
-    if !ok_header(file) {
-        return Verdict::Refused(Refusal::FileHeader);
-    }
-    if !ok_pairs(file) {
-        return Verdict::Refused(Refusal::FilePairs);
-    }
-    if !ok_bodies(file) {
-        return Verdict::Refused(Refusal::FileBody);
-    }
-    Verdict::Accepted
 }

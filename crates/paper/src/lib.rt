@@ -11,3 +11,4 @@ pub mod sheet;
 mod start;
 mod text;
 pub mod types;
+pub mod verdict;

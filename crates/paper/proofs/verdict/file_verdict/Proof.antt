@@ -1,9 +1,9 @@
--- `file::file_verdict` meets its contract: the tests in the definition's order. Assumes nothing.
+-- `verdict::file_verdict` meets its contract: the tests in the definition's order. Assumes nothing.
 use borrow.Author.Tests.{not-true, not-false}
 use Rattle.paper.specs.File.{fileVerdict}
 use borrow.Author.Needs.{needs}
-use Rattle.paper.proofs.file.file_verdict.Statement.{statement}
-use Rattle.paper.proofs.file.file_verdict.Tie as tie
+use Rattle.paper.proofs.verdict.file_verdict.Statement.{statement}
+use Rattle.paper.proofs.verdict.file_verdict.Tie as tie
 
 ok-header-requires : tie.Need-ok-header-requires
 ok-header-requires c κs = search needs
