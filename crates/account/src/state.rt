@@ -55,9 +55,10 @@ pub fn account_or(r: Rung, a: Account) -> Account
 pub fn time_of(s: State, r: Rung) -> f64
     ensures { λ x. ⌜ x ≡ timeOf s (r .0) ⌝ }
 {
+    let since = s.since;
     if r.0 < 32 {
         let i = r.0 as usize;
-        s.since[i]
+        since[i]
     } else {
         0.0
     }
@@ -67,9 +68,10 @@ pub fn time_of(s: State, r: Rung) -> f64
 pub fn wait_of(s: State, r: Rung) -> u32
     ensures { λ x. ⌜ x ≡ waitOf s (r .0) ⌝ }
 {
+    let wait = s.wait;
     if r.0 < 32 {
         let i = r.0 as usize;
-        s.wait[i]
+        wait[i]
     } else {
         PROBE_EVERY
     }

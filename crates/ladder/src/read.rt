@@ -44,13 +44,14 @@ pub fn row_or(r: Rung, row: Row) -> Row
     }
 }
 
-// The rung at a place; outside the array rung 0.
+// The rung at a place; outside the array rung 0. (Of a table by value only the part that is indexed is copied, so the front is taken out first.)
 pub fn rung_at(t: Table, p: Place) -> Rung
     ensures { λ x. ⌜ x .0 ≡ rungAt t (p .0) ⌝ }
 {
+    let front = t.front;
     if p.0 < 32 {
         let i = p.0 as usize;
-        t.front[i]
+        front[i]
     } else {
         Rung(0)
     }

@@ -8,13 +8,18 @@ use native.Mathlib.Omega.{arith}
 use borrow.Author.Tests.{leb-true, leb-false}
 use lib.Dec.{leb}
 use lib.ListN.{length, getD, take, drop, set, length-append, length-drop, drop-of-length-le}
-use lib.Seq.{take-all, take-suc, length-take-le, drop-cons, drop-drop, drop-append-seam, take-append-seam, set-append-seam}
+use lib.Seq.{take-all, take-at, take-suc, length-take-le, drop-cons, drop-drop, drop-append-seam, take-append-seam, set-append-seam}
 use borrow.Rule.Slice.PartMut.{putMid, postOf}
 use Rattle.paper.specs.Lines.{over}
 
 pub over-length : {A : Type 0} (ds old : List A) → length ds ≤ length old → length (over ds old) ≡ length old
 unfolding over
 over-length ds old h = simp (length-append, length-drop) (omega arith)
+
+-- what was written, read back
+pub over-read : {A : Type 0} (ds old new : List A) (n : ℕ) → n ≡ length ds → new ≡ over ds old → take n new ≡ ds
+unfolding over
+over-read ds old new n e f = rw f (take-at ds _ n (sym e))
 
 -- one element more; z is any default
 over-put : {A : Type 0} (z : A) (ds old : List A) (v : A) → length ds < length old → set (over ds old) (length ds) v ≡ over (ds ++ (v ∷ [])) old
@@ -97,9 +102,6 @@ copy-end src old new m i h g k o = go (leb m i) refl
 pub record Next {A : Type 0} (rest piece more : List A) : Type 0 where
   pub is : rest ≡ piece ++ more
 
-pub next-length : {A : Type 0} {rest piece more : List A} → Next rest piece more → length rest ≡ length piece + length more
-next-length {piece} {more} e = ap length (e .is) ∙ length-append piece more
-
 -- ds stands over the start of old, and ds and the rest are all of the text
 pub record Partly {A : Type 0} (all rest old : List A) (len : ℕ) (new : List A) : Type 0 where
   pub ds : List A
@@ -120,17 +122,15 @@ module _ {A : Type 0} {all rest old : List A} {len : ℕ} {new : List A} (w : Pa
       let d : w .ds ≡ all = sym (append-nil (w .ds)) ∙ (rw e at (w .left)) in
       (w .slice .at ∙ ap length d, w .slice .is ∙ ap (λ l. over l old) d)
 
-  -- the next piece: it has room in what is lent, and then the rest of the rest is left
-  module _ {piece more : List A} (e : Next rest piece more) (fits : length all ≤ length old) where
+  -- how much is lent from there on
+  pub partly-lent : length (take (length new - len) (drop len new)) ≡ length old - len
+  partly-lent = rest-len (w .slice)
+
+  -- the next piece has room, and then the rest of the rest is left
+  module _ {piece more : List A} (e : Next rest piece more) (fits : len + length piece ≤ length old) where
     next-left : (w .ds ++ piece) ++ more ≡ all
     next-left = rw (append-assoc, ← e .is) (w .left)
 
-    next-room : length (w .ds) + length piece ≤ length all
-    next-room = omega (arith, ap length next-left, length-append (w .ds ++ piece) more, length-append (w .ds) piece)
-
-    pub partly-room : (len + length piece ≤ length old) × (length piece ≤ length (take (length new - len) (drop len new)))
-    partly-room = omega (arith, next-room, w .slice .at, rest-len (w .slice))
-
     pub partly-next : (part : List A) (r : ℕ) → r ≡ length piece → part ≡ over piece (take (length new - len) (drop len new))
         → Partly all more old (len + r) (putMid len (length new - len) new part)
-    partly-next part r g f = record { ds = _; slice = lend (w .slice) piece part r g f (omega (arith, next-room)); left = next-left }
+    partly-next part r g f = record { ds = _; slice = lend (w .slice) piece part r g f (omega (arith, w .slice .at)); left = next-left }

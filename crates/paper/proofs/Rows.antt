@@ -7,14 +7,10 @@ use native.Mathlib.Nat.{suc-add}
 use native.Mathlib.Omega.{arith}
 use borrow.Author.Tests.{lt-ltb}
 use lib.Dec.{leb·suc-suc}
-use lib.ListN.{length, getD, take, drop, length-append, drop-of-length-le}
+use lib.ListN.{length, getD, take, drop, drop-of-length-le}
 use lib.Seq.{length-take-le, getD-take}
 use Rattle.paper.specs.Lines.{Cell, Number, cellBytes, ended, endOf, rowOf}
 use Rattle.paper.proofs.Over.{Next}
-
-pub ended-length : (c : Cell) (e : ℕ) → length (ended c e) ≡ length (cellBytes c) + 1
-unfolding ended
-ended-length c e = length-append (cellBytes c) (e ∷ [])
 
 pub ended-is : (c : Cell) (e : ℕ) → cellBytes c ++ (e ∷ []) ≡ ended c e
 unfolding ended

@@ -97,9 +97,13 @@ linesFrom k e (c ∷ cs) = lineBytes e (lineOf (step k c)) ++ linesFrom (step k 
 unfoldable pub sheetOf : List ℕ → List ℕ
 sheetOf s = linesFrom (freshFor (air s)) 1 (callsOf s)
 
--- 13: "the whole sheet is longer than the output slice", after 10, 11 and 12
+-- 13: "the whole sheet is longer than the output slice"
+abbrev pub roomVerdict : List ℕ → List ℕ → Verdict
+roomVerdict s out = unless (leb (length (sheetOf s)) (length out)) SheetRoom
+
+-- after 10, 11 and 12
 unfoldable pub sheetVerdict : List ℕ → List ℕ → Verdict
-sheetVerdict s out = orElse (fileVerdict s) (unless (leb (length (sheetOf s)) (length out)) SheetRoom)
+sheetVerdict s out = orElse (fileVerdict s) (roomVerdict s out)
 
 -- "The library call returns the sheet's length"
 abbrev pub sheetBy : List ℕ → Verdict → Sheet

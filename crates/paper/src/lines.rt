@@ -1,10 +1,9 @@
-// An event's line, and the line of a refused file. The writers are inner: each caller has shown that the line has room.
+// An event's line, and the line of a refused file. The writers are inner: each caller has shown that 66 bytes, six fields of eleven, have room.
 ghost use mathlib.Core.Path.{_≡_};
 ghost use Prim.Native.Nat.{_≤_};
 ghost use lib.ListN.{length};
 ghost use Rattle.paper.specs.Lines.{over};
 ghost use Rattle.paper.specs.Sheet.{triedCell, flagCell, cellsOf, cellCount, sixCells, lineBytes, refusedCells, refusedBytes};
-use crate::text::row_length;
 use crate::text::write_row;
 use crate::types::Cell;
 use crate::types::Line;
@@ -70,17 +69,10 @@ fn cell_count(line: Line) -> usize
     }
 }
 
-// How long an event's line is.
-pub(crate) fn line_length(event: u32, line: Line) -> usize
-    ensures { λ r. ⌜ (r ≡ length (lineBytes event line)) × (r ≤ 66) ⌝ }
-{
-    row_length(cells_of(event, line), cell_count(line))
-}
-
 // An event's line at the start of the slice. Returns how many bytes it took.
 pub(crate) fn write_line(out: &mut [u8], event: u32, line: Line) -> usize
-    requires { ⌜ length (lineBytes event line) ≤ length (now out) ⌝ }
-    ensures { λ r. ⌜ r ≡ length (lineBytes event line) ⌝ }
+    requires { ⌜ 66 ≤ length (now out) ⌝ }
+    ensures { λ r. ⌜ (r ≡ length (lineBytes event line)) × (r ≤ 66) ⌝ }
     ensures { λ r. ⌜ now (out .exit) ≡ over (lineBytes event line) (now (out .entry)) ⌝ }
 {
     let cells = cells_of(event, line);
@@ -102,17 +94,10 @@ fn refused_cells(why: Refusal) -> [Cell; 6]
     ]
 }
 
-// How long that line is.
-pub(crate) fn refused_length(why: Refusal) -> usize
-    ensures { λ r. ⌜ (r ≡ length (refusedBytes why)) × (r ≤ 66) ⌝ }
-{
-    row_length(refused_cells(why), 2)
-}
-
 // That line at the start of the slice. Returns how many bytes it took.
 pub(crate) fn write_refused(out: &mut [u8], why: Refusal) -> usize
-    requires { ⌜ length (refusedBytes why) ≤ length (now out) ⌝ }
-    ensures { λ r. ⌜ r ≡ length (refusedBytes why) ⌝ }
+    requires { ⌜ 66 ≤ length (now out) ⌝ }
+    ensures { λ r. ⌜ (r ≡ length (refusedBytes why)) × (r ≤ 66) ⌝ }
     ensures { λ r. ⌜ now (out .exit) ≡ over (refusedBytes why) (now (out .entry)) ⌝ }
 {
     let cells = refused_cells(why);

@@ -1,18 +1,19 @@
-// The sheet of a question file: one pass over its events measures it, and if it has room a second one writes it.
+// The sheet of a question file: one pass over its events writes it, to the slice where even the longest lines would have room, else by way of an array.
 ghost use mathlib.Core.Path.{_≡_};
-ghost use Prim.Native.Nat.{_≤_};
+ghost use Prim.Native.Nat.{_*_, _≤_};
 ghost use lib.ListN.{length};
+ghost use Rattle.paper.specs.File.{eventCount};
 ghost use Rattle.paper.specs.Lines.{over};
-ghost use Rattle.paper.specs.Sheet.{lineOf, sheetOf, sheetAnswer, sheetLeft, refusedBytes, fitting, printedIn};
+ghost use Rattle.paper.specs.Sheet.{lineOf, sheetOf, roomVerdict, sheetBy, sheetAnswer, leftBy, sheetLeft, refusedBytes, fitting, printedIn};
 use crate::event::answer_event;
 use crate::file::air;
-use crate::lines::line_length;
-use crate::lines::refused_length;
+use crate::file::event_count;
 use crate::lines::write_line;
 use crate::lines::write_refused;
 use crate::reader::read_body;
 use crate::reader::read_end;
 use crate::start::fresh_for;
+use crate::text::write_bytes;
 use crate::types::Line;
 use crate::types::Sheet;
 use crate::verdict::file_verdict;
@@ -39,28 +40,10 @@ fn line_of(a: Answer) -> Line
     }
 }
 
-// How long the sheet is.
-fn sheet_length(file: &[u8]) -> usize
-    ensures { λ r. ⌜ r ≡ length (sheetOf (now (file .entry))) ⌝ }
-{
-    let mut k = fresh_for(air(file));
-    let mut total: usize = 0;
-    let mut i: u32 = 0;
-    while !read_end(file, i) {
-        let a = answer_event(k, read_body(file, i));
-        let line = line_of(a);
-        total += line_length(i + 1, line);
-        let next = a.controller;
-        k = next;
-        i += 1;
-    }
-    total
-}
-
-// The sheet at the start of the slice, in which it has room: each line goes after the bytes already written. Returns the sheet's length.
+// The sheet at the start of the slice, in which lines of any length have room: each goes after the bytes already written. Returns the sheet's length.
 fn write_lines(file: &[u8], out: &mut [u8]) -> usize
-    requires { ⌜ length (sheetOf (now file)) ≤ length (now out) ⌝ }
-    ensures { λ r. ⌜ r ≡ length (sheetOf (now (file .entry))) ⌝ }
+    requires { ⌜ 66 * eventCount (now file) ≤ length (now out) ⌝ }
+    ensures { λ r. ⌜ (r ≡ length (sheetOf (now (file .entry)))) × (r ≤ length (now (out .entry))) ⌝ }
     ensures { λ r. ⌜ now (out .exit) ≡ over (sheetOf (now (file .entry))) (now (out .entry)) ⌝ }
 {
     let mut k = fresh_for(air(file));
@@ -78,6 +61,32 @@ fn write_lines(file: &[u8], out: &mut [u8]) -> usize
     len
 }
 
+// The sheet of an accepted file, if it has room. It is written to an array that has room for any sheet, and moved from there.
+fn hold_sheet(file: &[u8], out: &mut [u8]) -> Sheet
+    requires { ⌜ eventCount (now file) ≤ 1000 ⌝ }
+    ensures { λ r. ⌜ r ≡ sheetBy (now (file .entry)) (roomVerdict (now (file .entry)) (now (out .entry))) ⌝ }
+    ensures { λ r. ⌜ now (out .exit) ≡ leftBy (now (file .entry)) (now (out .entry)) (roomVerdict (now (file .entry)) (now (out .entry))) ⌝ }
+{
+    let mut held = [0u8; 66000];
+    let len = write_lines(file, &mut held);
+    if len > out.len() {
+        return Sheet::Refused(Refusal::SheetRoom);
+    }
+    Sheet::Written(write_bytes(out, &held[..len]))
+}
+
+// The same. Only a slice that may be too short is not written to at once.
+fn fit_sheet(file: &[u8], out: &mut [u8]) -> Sheet
+    requires { ⌜ eventCount (now file) ≤ 1000 ⌝ }
+    ensures { λ r. ⌜ r ≡ sheetBy (now (file .entry)) (roomVerdict (now (file .entry)) (now (out .entry))) ⌝ }
+    ensures { λ r. ⌜ now (out .exit) ≡ leftBy (now (file .entry)) (now (out .entry)) (roomVerdict (now (file .entry)) (now (out .entry))) ⌝ }
+{
+    if 66 * (event_count(file) as usize) <= out.len() {
+        return Sheet::Written(write_lines(file, out));
+    }
+    hold_sheet(file, out)
+}
+
 // The sheet of a question file, at the start of the slice. Refused: 10, 11, 12, 13, and the slice is left as it was.
 pub fn sheet(question: &[u8], out: &mut [u8]) -> Sheet
     ensures { λ r. ⌜ r ≡ sheetAnswer (now (question .entry)) (now (out .entry)) ⌝ }
@@ -85,14 +94,7 @@ pub fn sheet(question: &[u8], out: &mut [u8]) -> Sheet
 {
     let verdict = file_verdict(question);
     match verdict {
-        Verdict::Accepted => {
-            if sheet_length(question) <= out.len() {
-                let len = write_lines(question, out);
-                Sheet::Written(len)
-            } else {
-                Sheet::Refused(Refusal::SheetRoom)
-            }
-        }
+        Verdict::Accepted => fit_sheet(question, out),
         Verdict::Refused(why) => Sheet::Refused(why),
     }
 }
@@ -102,10 +104,12 @@ fn print_refused(out: &mut [u8], why: Refusal) -> usize
     ensures { λ r. ⌜ r ≡ length (fitting (refusedBytes why) (now (out .entry))) ⌝ }
     ensures { λ r. ⌜ now (out .exit) ≡ over (fitting (refusedBytes why) (now (out .entry))) (now (out .entry)) ⌝ }
 {
-    if refused_length(why) <= out.len() {
-        return write_refused(out, why);
+    let mut held = [0u8; 66];
+    let len = write_refused(&mut held, why);
+    if len > out.len() {
+        return 0;
     }
-    0
+    write_bytes(out, &held[..len])
 }
 
 // What the program prints of a question file, at the start of the slice: the sheet, or the line of a refused file. Returns how many bytes it took.

@@ -1,17 +1,11 @@
 // Lines of fields, written at the start of a slice that has room for them: each piece goes after the bytes already written, into the part of the slice
-// that is lent from there. The writers are inner: each caller has shown that the text has room.
+// that is lent from there. The writers are inner: each caller has shown that the longest text has room: ten digits, a field of eleven bytes with the one
+// after it, a line of six fields.
 ghost use mathlib.Core.Path.{_≡_};
 ghost use Prim.Native.Nat.{_+_, _≤_, _<_};
 ghost use lib.ListN.{length, take};
 ghost use Rattle.paper.specs.Lines.{decimal, cellBytes, ended, endOf, rowOf, over};
 use crate::types::Cell;
-
-// How many digits a number has.
-fn width(n: u32) -> usize
-    ensures { λ r. ⌜ (r ≡ length (decimal n)) × (r ≤ 10) ⌝ }
-{
-    if n < 10 { 1 } else { width(n / 10) + 1 }
-}
 
 // A number in decimal. Returns, as all writers here do, how many bytes it took.
 fn write_decimal(out: &mut [u8], n: u32) -> usize
@@ -28,7 +22,16 @@ fn write_decimal(out: &mut [u8], n: u32) -> usize
     k + 1
 }
 
-fn write_bytes(out: &mut [u8], src: &[u8]) -> usize
+// The same of a slice with room for any number.
+fn write_number(out: &mut [u8], n: u32) -> usize
+    requires { ⌜ 10 ≤ length (now out) ⌝ }
+    ensures { λ r. ⌜ (r ≡ length (decimal n)) × (r ≤ 10) ⌝ }
+    ensures { λ r. ⌜ now (out .exit) ≡ over (decimal n) (now (out .entry)) ⌝ }
+{
+    write_decimal(out, n)
+}
+
+pub(crate) fn write_bytes(out: &mut [u8], src: &[u8]) -> usize
     requires { ⌜ length (now src) ≤ length (now out) ⌝ }
     ensures { λ r. ⌜ r ≡ length (now (src .entry)) ⌝ }
     ensures { λ r. ⌜ now (out .exit) ≡ over (now (src .entry)) (now (out .entry)) ⌝ }
@@ -40,12 +43,12 @@ fn write_bytes(out: &mut [u8], src: &[u8]) -> usize
 }
 
 fn write_bare(out: &mut [u8], cell: Cell) -> usize
-    requires { ⌜ length (cellBytes cell) ≤ length (now out) ⌝ }
-    ensures { λ r. ⌜ r ≡ length (cellBytes cell) ⌝ }
+    requires { ⌜ 10 ≤ length (now out) ⌝ }
+    ensures { λ r. ⌜ (r ≡ length (cellBytes cell)) × (r ≤ 10) ⌝ }
     ensures { λ r. ⌜ now (out .exit) ≡ over (cellBytes cell) (now (out .entry)) ⌝ }
 {
     match cell {
-        Cell::Number(n) => write_decimal(out, n),
+        Cell::Number(n) => write_number(out, n),
         Cell::Dash => write_bytes(out, b"-"),
         Cell::Word => write_bytes(out, b"refused"),
     }
@@ -53,8 +56,8 @@ fn write_bare(out: &mut [u8], cell: Cell) -> usize
 
 // A field and the byte after it.
 fn write_cell(out: &mut [u8], cell: Cell, end: u8) -> usize
-    requires { ⌜ length (ended cell end) ≤ length (now out) ⌝ }
-    ensures { λ r. ⌜ r ≡ length (ended cell end) ⌝ }
+    requires { ⌜ 11 ≤ length (now out) ⌝ }
+    ensures { λ r. ⌜ (r ≡ length (ended cell end)) × (r ≤ 11) ⌝ }
     ensures { λ r. ⌜ now (out .exit) ≡ over (ended cell end) (now (out .entry)) ⌝ }
 {
     let k = write_bare(out, cell);
@@ -72,8 +75,8 @@ fn end_of(i: usize, n: usize) -> u8
 
 // The first n of the fields, as a line.
 pub(crate) fn write_row(out: &mut [u8], cells: [Cell; 6], n: usize) -> usize
-    requires { ⌜ (n ≤ 6) × (length (rowOf (take n cells)) ≤ length (now out)) ⌝ }
-    ensures { λ r. ⌜ r ≡ length (rowOf (take n cells)) ⌝ }
+    requires { ⌜ (n ≤ 6) × (66 ≤ length (now out)) ⌝ }
+    ensures { λ r. ⌜ (r ≡ length (rowOf (take n cells))) × (r ≤ 66) ⌝ }
     ensures { λ r. ⌜ now (out .exit) ≡ over (rowOf (take n cells)) (now (out .entry)) ⌝ }
 {
     let mut len: usize = 0;
@@ -83,28 +86,4 @@ pub(crate) fn write_row(out: &mut [u8], cells: [Cell; 6], n: usize) -> usize
         len += k;
     }
     len
-}
-
-// How long a field is, with the byte after it.
-fn cell_length(cell: Cell) -> usize
-    ensures { λ r. ⌜ (r ≡ length (cellBytes cell) + 1) × (r ≤ 11) ⌝ }
-{
-    match cell {
-        Cell::Number(n) => width(n) + 1,
-        Cell::Dash => 2,
-        Cell::Word => 8,
-    }
-}
-
-// How long the line of the first n fields is.
-pub(crate) fn row_length(cells: [Cell; 6], n: usize) -> usize
-    requires { ⌜ n ≤ 6 ⌝ }
-    ensures { λ r. ⌜ (r ≡ length (rowOf (take n cells))) × (r ≤ 66) ⌝ }
-{
-    let mut total: usize = 0;
-    for i in 0..n {
-        let cell = cells[i];
-        total += cell_length(cell);
-    }
-    total
 }

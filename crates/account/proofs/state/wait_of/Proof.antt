@@ -10,16 +10,16 @@ cast-i c = search needs
 mul-result : tie.Need-mul-result
 mul-result c = search needs
 
-element-copy-out-result : tie.Need-element-copy-out-result
-element-copy-out-result c = search needs
+array-read-result : tie.Need-array-read-result
+array-read-result c = search needs
 
 returns : tie.Need-returns
 returns c =
     let a = c .before .before .before .before .args in
-    inside (a .t1 .wait) (a .r .0) (search needs) _ _ (search needs)
+    inside (a .s .wait) (a .r .0) (search needs) _ _ (search needs)
 
 returns-2 : tie.Need-returns-2
-returns-2 c = let a = c .before .before .args in outside (a .t1 .wait) (a .r .0) (search needs) _ (search needs)
+returns-2 c = let a = c .before .before .before .args in outside (a .s .wait) (a .r .0) (search needs) _ (search needs)
 
 pub wait-of-spec : {M : Type 1} → statement M
-wait-of-spec = tie.close (tie.spec cast-i mul-result element-copy-out-result returns returns-2)
+wait-of-spec = tie.close (tie.spec cast-i mul-result array-read-result returns returns-2)

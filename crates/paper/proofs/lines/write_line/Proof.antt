@@ -14,9 +14,7 @@ cell-count-requires : tie.Need-cell-count-requires
 cell-count-requires c κs = search needs
 
 write-row-requires : tie.Need-write-row-requires
-write-row-requires c κs =
-    let s = c .before .before .before .before in
-    (c .before .cell-count .ensures .1, rw (line-is (s .args .event) (s .args .line) _ _ (c .before .before .cells-of .ensures) (c .before .cell-count .ensures .0)) (s .pre))
+write-row-requires c κs = (c .before .cell-count .ensures .1, search needs)
 
 same-length : tie.Need-same-length
 same-length c = search needs
@@ -26,7 +24,7 @@ returns c =
     let s = c .before .before .before .before .before .before .before in
     let w = c .before .before .write-row .ensures in
     let e = line-is (s .args .event) (s .args .line) _ _ (c .before .before .before .before .before .cells-of .ensures) (c .before .before .before .before .cell-count .ensures .0) in
-    (w .0 ∙ ap length e, w .1 ∙ ap (λ l. over l (s .args .out .now)) e)
+    ((w .0 .0 ∙ ap length e, w .0 .1), w .1 ∙ ap (λ l. over l (s .args .out .now)) e)
 
 pub write-line-spec : {M : Type 1} → statement M
 write-line-spec =

@@ -1,13 +1,15 @@
--- `sheet::sheet` meets its contract: the file's verdict, then the room, and nothing is written before both. Assumes nothing.
-use mathlib.Core.Path.{refl, ap}
-use native.Mathlib.Omega.{arith}
-use borrow.Author.Tests.{le-leb, lt-leb}
-use lib.ListN.{length}
-use Rattle.paper.specs.Sheet.{sheetOf, sheetVerdict, sheetAnswer, sheetLeft}
-use Rattle.paper.specs.declared.types.Sheet.the-variants.{Written}
+-- `sheet::sheet` meets its contract: the file's verdict, then the room. Assumes nothing.
+use mathlib.Core.Path.{_≡_, refl, sym, _∙_}
+use Rattle.limits.specs.declared.refusal.Verdict.the-variants.{Accepted}
+use Rattle.paper.specs.File.{fileVerdict}
+use Rattle.paper.specs.Sheet.{sheetVerdict, sheetAnswer, sheetLeft}
+use Rattle.paper.proofs.Printed.{few-events}
 use borrow.Author.Needs.{needs}
 use Rattle.paper.proofs.sheet.sheet.Statement.{statement}
 use Rattle.paper.proofs.sheet.sheet.Tie as tie
+use Rattle.paper.proofs.sheet.sheet.Reads as reads
+use Rattle.paper.proofs.sheet.fit_sheet.Reads as fit-sheet-reads
+use Rattle.paper.proofs.verdict.file_verdict.Reads as file-verdict-reads
 
 file-verdict-requires : tie.Need-file-verdict-requires
 file-verdict-requires c κs = search needs
@@ -15,11 +17,8 @@ file-verdict-requires c κs = search needs
 enum-told : tie.Need-enum-told
 enum-told c = search needs
 
-sheet-length-requires : tie.Need-sheet-length-requires
-sheet-length-requires c κs = search needs
-
-write-lines-requires : tie.Need-write-lines-requires
-write-lines-requires c κs = search needs
+fit-sheet-requires : tie.Need-fit-sheet-requires
+fit-sheet-requires c κs = few-events _ (sym (c .before .before .before .file-verdict .ensures) ∙ c .before .enum-told .given .1)
 
 enum-known-verdict : tie.Need-enum-known-verdict
 enum-known-verdict c = search needs
@@ -29,22 +28,11 @@ same-length c = search needs
 
 returns : tie.Need-returns
 unfolding sheetVerdict sheetAnswer sheetLeft
-returns c =
-    let a = c .before .before .before .before .before .before .before .before .before .before .before .args in
-    let e = le-leb (length (sheetOf (a .question .now))) (length (a .out .now)) (omega arith) in
-    let w = c .before .before .write-lines .ensures in
-    rw (← c .before .before .before .before .before .before .before .before .file-verdict .ensures, c .before .before .before .before .before .before .enum-told .given .1, e) (ap Written (w .0), w .1)
+returns c = rw (← c .before .before .before .before .before .before .file-verdict .ensures, c .before .before .before .before .enum-told .given .1) (c .before .before .fit-sheet .ensures)
 
 returns-2 : tie.Need-returns-2
 unfolding sheetVerdict sheetAnswer sheetLeft
-returns-2 c =
-    let a = c .before .before .before .before .before .before .before .args in
-    let e = lt-leb (length (sheetOf (a .question .now))) (length (a .out .now)) (omega arith) in
-    rw (← c .before .before .before .before .file-verdict .ensures, c .before .before .enum-told .given .1, e) (refl, refl)
-
-returns-3 : tie.Need-returns-3
-unfolding sheetVerdict sheetAnswer sheetLeft
-returns-3 c = rw (← c .before .before .before .file-verdict .ensures, c .before .verdict .given .1) (refl, refl)
+returns-2 c = rw (← c .before .before .before .file-verdict .ensures, c .before .verdict .given .1) (refl, refl)
 
 pub sheet-spec : {M : Type 1} → statement M
 sheet-spec =
@@ -52,10 +40,8 @@ sheet-spec =
     (tie.spec
     file-verdict-requires
     enum-told
-    sheet-length-requires
-    write-lines-requires
+    fit-sheet-requires
     enum-known-verdict
     same-length
     returns
-    returns-2
-    returns-3)
+    returns-2)

@@ -1,9 +1,9 @@
--- `sheet::write_lines` meets its contract. The invariant: the lines below the i-th stand over the start of the slice, and the others are left. Assumes nothing.
+-- `sheet::write_lines` meets its contract. The invariant: the lines below the i-th, of 66 bytes at most, stand over the start of the slice, and the others are left. Assumes nothing.
 use mathlib.Core.Path.{refl}
-use Prim.Native.Nat.{_+_, _-_, _<_, _≤_}
+use Prim.Native.Nat.{_+_, _-_, _*_, _<_, _≤_}
 use native.Mathlib.Omega.{arith}
 use Rattle.paper.specs.Sheet.{lineBytes, linesFrom, sheetOf}
-use Rattle.paper.proofs.Over.{Next, Partly, partly-start, partly-within, partly-room, partly-next, partly-end}
+use Rattle.paper.proofs.Over.{Next, Partly, partly-start, partly-within, partly-lent, partly-next, partly-end}
 use Rattle.paper.proofs.Events.{before-end, past-end, callsFrom, answer-at, lines-start, lines-next, lines-end}
 use borrow.Author.Needs.{needs}
 use borrow.Author.Tests.{not-true, not-false}
@@ -12,7 +12,7 @@ use Rattle.paper.proofs.sheet.write_lines.Statement.{statement}
 use Rattle.paper.proofs.sheet.write_lines.Tie as tie
 
 abbrev Inv-loop : tie.InvT-loop
-Inv-loop file out₀ k₀ len₀ i₀ out k len i = (i ≤ eventCount file) × Partly (sheetOf file) (linesFrom k (i + 1) (callsFrom file (eventCount file) i)) out₀ len out
+Inv-loop file out₀ k₀ len₀ i₀ out k len i = (i ≤ eventCount file) × (len ≤ 66 * i) × Partly (sheetOf file) (linesFrom k (i + 1) (callsFrom file (eventCount file) i)) out₀ len out
 
 abbrev μ-loop : tie.MeasureT-loop
 μ-loop file out₀ k₀ len₀ i₀ out k len i = eventCount file - i
@@ -24,7 +24,7 @@ fresh-for-requires : tie.Need-fresh-for-requires Inv-loop μ-loop
 fresh-for-requires c κs = search needs
 
 loop-holds : tie.Need-loop-holds Inv-loop μ-loop
-loop-holds c = (search needs, rw (lines-start (c .before .before .before .before .args .file .now) _ _ _ refl (c .before .air .ensures) (c .fresh-for .ensures)) (partly-start _ _))
+loop-holds c = (search needs, search needs, rw (lines-start (c .before .before .before .before .args .file .now) _ _ _ refl (c .before .air .ensures) (c .fresh-for .ensures)) (partly-start _ _))
 
 read-end-requires : tie.Need-read-end-requires Inv-loop μ-loop
 read-end-requires c κs = search needs
@@ -55,10 +55,10 @@ next c =
     lines-next file _ (l .i) (l .i + 1) (l .k) _ _ (less (c .before .before) .0) (answer-at file (l .i) (l .k) _ _ (c .before .answer-event .ensures) (c .before .before .read-body .ensures)) (c .line-of .ensures)
 
 sub-write-line : tie.Need-sub-write-line Inv-loop μ-loop
-sub-write-line c = partly-within (c .before .before .before .before .before .loop .inv .1) .0
+sub-write-line c = partly-within (c .before .before .before .before .before .loop .inv .2) .0
 
 part-write-line-start : tie.Need-part-write-line-start Inv-loop μ-loop
-part-write-line-start c = partly-within (c .before .before .before .before .before .loop .inv .1) .0
+part-write-line-start c = partly-within (c .before .before .before .before .before .loop .inv .2) .0
 
 part-write-line-end : tie.Need-part-write-line-end Inv-loop μ-loop
 part-write-line-end c = search needs
@@ -67,11 +67,10 @@ add-write-line : tie.Need-add-write-line Inv-loop μ-loop
 add-write-line c = search (needs, less (c .before .before .before))
 
 write-line-requires : tie.Need-write-line-requires Inv-loop μ-loop
-write-line-requires c κs = partly-room (c .before .before .before .before .before .before .loop .inv .1) (next (c .before)) (c .before .before .before .before .before .before .before .before .before .before .before .pre) .1
+write-line-requires c κs = omega (arith, partly-lent (c .before .before .before .before .before .before .loop .inv .2), less (c .before .before .before), c .before .before .before .before .before .before .loop .inv .1, c .before .before .before .before .before .before .before .before .before .before .before .pre)
 
 add-len : tie.Need-add-len Inv-loop μ-loop
-add-len c =
-    omega (arith, partly-room (c .before .before .before .before .before .before .before .before .before .loop .inv .1) (next (c .before .before .before .before)) (c .before .before .before .before .before .before .before .before .before .before .before .before .before .before .pre) .0, c .before .before .write-line .ensures .0, c .before .before .before .before .before .before .before .before .before .before .before .before .before .before .good)
+add-len c = search (needs, less (c .before .before .before .before .before .before))
 
 add-i : tie.Need-add-i Inv-loop μ-loop
 add-i c = search (needs, less (c .before .before .before .before .before .before .before))
@@ -82,16 +81,19 @@ loop-less c = search (needs, less (c .before .before .before .before .before .be
 loop-again : tie.Need-loop-again Inv-loop μ-loop
 loop-again c =
     let e = c .before .before .before .write-line .ensures in
-    (omega (arith, less (c .before .before .before .before .before .before .before)), partly-next (c .before .before .before .before .before .before .before .before .before .before .loop .inv .1) (next (c .before .before .before .before .before)) (c .before .before .before .before .before .before .before .before .before .before .before .before .before .before .before .pre) _ _ (e .0) (e .1))
+    let l = c .before .before .before .before .before .before .before .before .before .before .loop in
+    let h = less (c .before .before .before .before .before .before .before) in
+    (omega (arith, h), omega (arith, e .0, l .inv .1), partly-next (l .inv .2) (next (c .before .before .before .before .before)) (omega (arith, h, e .0, l .inv .1, c .before .before .before .before .before .before .before .before .before .before .before .before .before .before .before .pre)) _ _ (e .0 .0) (e .1))
 
 same-length : tie.Need-same-length Inv-loop μ-loop
-same-length c = partly-within (c .before .before .loop .inv .1) .1
+same-length c = partly-within (c .before .before .loop .inv .2) .1
 
 returns : tie.Need-returns Inv-loop μ-loop
 returns c =
     let l = c .before .before .loop in
     let file = c .before .before .before .before .before .before .before .args .file .now in
-    partly-end (l .inv .1) (lines-end file (eventCount file) (l .i) (l .i + 1) (l .k) (past-end _ _ _ (c .before .read-end .ensures .0) (not-false _ (c .if1 .left))))
+    let e = partly-end (l .inv .2) (lines-end file (eventCount file) (l .i) (l .i + 1) (l .k) (past-end _ _ _ (c .before .read-end .ensures .0) (not-false _ (c .if1 .left)))) in
+    ((e .0, omega (arith, partly-within (l .inv .2))), e .1)
 
 pub write-lines-spec : {M : Type 1} → statement M
 write-lines-spec =
