@@ -10,7 +10,7 @@ use Rattle.ladder.specs.Lists.{every}
 use Rattle.limits.specs.Values.{okBurst}
 use Rattle.steps.specs.declared.types.Frame.{Frame}
 use Rattle.paper.specs.Bytes.{byte, le16}
-use Rattle.paper.specs.Body.{allFrom, frameCount, frameBytes, okFlags, frameOf, frameAt, framesIn, burstCount, burstAt, burstsIn, noFrame, noFrames, noBursts}
+use Rattle.paper.specs.Body.{allFrom, frameCount, frameBytes, okFlags, frameOf, frameAt, framesIn, burstCount, burstAt, burstsIn, noFrame, noFrames, noFew, noBursts}
 use Rattle.paper.proofs.Ranges.{length-tabulate, tabulate-at, every-tabulate}
 
 -- ---- flags: r is the flags' byte of the i-th frame, as a call gave it
@@ -34,6 +34,10 @@ frame-at b i d h = tabulate-at (frameCount b) 0 i (frameAt b) d h ∙ rw zero-ad
 pub length-noFrames : length noFrames ≡ 256
 unfolding noFrames
 length-noFrames = length-replicate 256 noFrame
+
+pub length-noFew : length noFew ≡ 16
+unfolding noFew
+length-noFew = length-replicate 16 noFrame
 
 -- ---- burst counts
 pub length-bursts : (b : List ℕ) → length (burstsIn b) ≡ burstCount b

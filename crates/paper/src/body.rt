@@ -4,7 +4,7 @@ ghost use Prim.Native.Nat.{min};
 ghost use lib.ListN.{length};
 ghost use Rattle.ladder.specs.Lists.{every};
 ghost use Rattle.limits.specs.Values.{okBurst};
-ghost use Rattle.paper.specs.Body.{allFrom, frameCount, okFlags, okFrames, frameOf, framesIn, noFrames, okEcho, okSilence, okSnr, okFamilies, okPrices, burstCount, burstsIn, noBursts, okSeed, okBody, batchOf, burstsOf};
+ghost use Rattle.paper.specs.Body.{allFrom, frameCount, okFlags, okFrames, frameOf, framesIn, noFrame, noFrames, noFew, fewOf, okEcho, okSilence, okSnr, okFamilies, okPrices, burstCount, burstsIn, noBursts, okSeed, okBody, batchOf, burstsOf};
 use crate::bytes::byte_at;
 use crate::bytes::f64_of;
 use crate::bytes::ok_reading;
@@ -22,7 +22,7 @@ fn at_most(most: usize, n: usize) -> usize
 }
 
 // How many frames a body of frames has.
-fn frame_count(body: &[u8]) -> usize
+pub fn frame_count(body: &[u8]) -> usize
     ensures { λ r. ⌜ r ≡ frameCount (now (body .entry)) ⌝ }
 {
     if body.len() < 10 {
@@ -157,18 +157,31 @@ fn frame_of(bytes: &[u8]) -> Frame
     }
 }
 
-fn no_frames() -> [Frame; 256]
-    ensures { λ r. ⌜ r ≡ noFrames ⌝ }
+fn no_frame() -> Frame
+    ensures { λ r. ⌜ r ≡ noFrame ⌝ }
 {
-    let blank = Frame {
+    Frame {
         rung: Rung(0),
         detected: false,
         decoded: false,
         combined: false,
         capacity: 0,
         air: 0.0,
-    };
+    }
+}
+
+fn no_frames() -> [Frame; 256]
+    ensures { λ r. ⌜ r ≡ noFrames ⌝ }
+{
+    let blank = no_frame();
     [blank; 256]
+}
+
+fn no_few() -> [Frame; 16]
+    ensures { λ r. ⌜ r ≡ noFew ⌝ }
+{
+    let blank = no_frame();
+    [blank; 16]
 }
 
 // The frames of a body of frames.
@@ -186,6 +199,19 @@ pub fn frames_of(body: &[u8]) -> Batch
         frames,
         count: at_most(257, n) as u32,
     }
+}
+
+// The first 16 frames of a body of frames: most bodies have no more, and the array of 256 would cost them more than all else.
+pub fn few_of(body: &[u8]) -> [Frame; 16]
+    ensures { λ r. ⌜ r ≡ fewOf (framesIn (now (body .entry))) ⌝ }
+{
+    let mut frames = no_few();
+    let kept = at_most(16, frame_count(body));
+    for i in 0..kept {
+        let frame = frame_of(past(body, 10 + 12 * i));
+        frames[i] = frame;
+    }
+    frames
 }
 
 // How many burst counts a body of prices has.

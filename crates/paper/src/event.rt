@@ -6,6 +6,8 @@ ghost use Rattle.rate.specs.Calls.{step, Frames, Echo, Silence, Snr, Seed, Pric
 ghost use Rattle.paper.specs.Bytes.{byte, le32, float, readingOf};
 ghost use Rattle.paper.specs.Body.{framesIn, burstsIn, callOf};
 use crate::body::bursts_of;
+use crate::body::few_of;
+use crate::body::frame_count;
 use crate::body::frames_of;
 use crate::bytes::byte_at;
 use crate::bytes::f64_of;
@@ -20,6 +22,10 @@ fn frames_event(k: RateController, body: &[u8]) -> Answer
     ensures { λ r. ⌜ r ≡ step k (Frames (framesIn (now (body .entry))) (readingOf (drop 1 (now (body .entry))))) ⌝ }
 {
     let snr = reading_of(past(body, 1));
+    let n = frame_count(body);
+    if n <= 16 {
+        return rate::frames::observe_few(k, few_of(body), n, snr);
+    }
     let batch = frames_of(body);
     let frames = batch.frames;
     let count = batch.count as usize;

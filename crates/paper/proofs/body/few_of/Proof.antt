@@ -1,0 +1,94 @@
+-- `body::few_of` meets its contract. The invariant: the first i frames stand over the start of an array of none. Assumes nothing.
+use mathlib.Core.Path.{_≡_, sym, ap, _∙_}
+use Prim.Native.Nat.{_-_, _≤_}
+use native.Mathlib.Omega.{arith}
+use lib.ListN.{length, take}
+use Rattle.paper.specs.Body.{frameOf, framesIn, noFrame, noFew, fewOf}
+use Rattle.paper.specs.Lines.{over}
+use borrow.Author.Needs.{needs}
+use Rattle.paper.proofs.Bodies.{length-frames, frame-at, length-noFew}
+use Rattle.paper.proofs.Over.{Over, over-start, copy-next, copy-end}
+use Rattle.paper.proofs.body.few_of.Statement.{statement}
+use Rattle.paper.proofs.body.few_of.Tie as tie
+
+abbrev Inv-loop : tie.InvT-loop
+Inv-loop body frames₀ kept i₀ frames i = (i ≤ kept) × Over (take i (framesIn body)) frames₀ i frames
+
+abbrev μ-loop : tie.MeasureT-loop
+μ-loop body frames₀ kept i₀ frames i = kept - i
+
+no-few-requires : tie.Need-no-few-requires Inv-loop μ-loop
+no-few-requires c κs = search needs
+
+frame-count-requires : tie.Need-frame-count-requires Inv-loop μ-loop
+frame-count-requires c κs = search needs
+
+at-most-requires : tie.Need-at-most-requires Inv-loop μ-loop
+at-most-requires c κs = search needs
+
+loop-holds : tie.Need-loop-holds Inv-loop μ-loop
+loop-holds c = (search needs, over-start _)
+
+mul-past : tie.Need-mul-past Inv-loop μ-loop
+mul-past c = search needs
+
+add-past : tie.Need-add-past Inv-loop μ-loop
+add-past c = search needs
+
+past-requires : tie.Need-past-requires Inv-loop μ-loop
+past-requires c κs = search needs
+
+frame-of-requires : tie.Need-frame-of-requires Inv-loop μ-loop
+frame-of-requires c κs = search needs
+
+mul-frames : tie.Need-mul-frames Inv-loop μ-loop
+mul-frames c = search needs
+
+array-set-from-frames : tie.Need-array-set-from-frames Inv-loop μ-loop
+array-set-from-frames c = search needs
+
+add-i : tie.Need-add-i Inv-loop μ-loop
+add-i c = search needs
+
+loop-less : tie.Need-loop-less Inv-loop μ-loop
+loop-less c = search needs
+
+loop-again : tie.Need-loop-again Inv-loop μ-loop
+loop-again c =
+    let b = c .before .before .before .before .before .before .before .before .args .body .now in
+    let l = c .before .before .before .loop in
+    let none = c .before .before .before .before .before .before .no-few in
+    let many : length (framesIn b) ≡ c .before .before .before .before .before .frame-count .result = length-frames b ∙ sym (c .before .before .before .before .before .frame-count .ensures) in
+    let room : length (none .result) ≡ 16 = ap length (none .ensures) ∙ length-noFew in
+    let is = c .frame-of .ensures ∙ ap frameOf (c .before .past .ensures) ∙ sym (frame-at b (l .i) noFrame (omega arith)) in
+    (omega arith, copy-next (framesIn b) (none .result) (l .frames) (l .i) noFrame (c .frame-of .result) (omega arith) (omega arith) is (l .inv .1))
+
+returns : tie.Need-returns Inv-loop μ-loop
+unfolding fewOf
+returns c =
+    let b = c .before .before .before .before .before .before .args .body .now in
+    let l = c .before .loop in
+    let none = c .before .before .before .before .no-few in
+    let many : length (framesIn b) ≡ c .before .before .before .frame-count .result = length-frames b ∙ sym (c .before .before .before .frame-count .ensures) in
+    copy-end (framesIn b) (none .result) (l .frames) 16 (l .i) (omega arith) (omega arith) (omega arith) (l .inv .1) ∙ ap (over (take 16 (framesIn b))) (none .ensures)
+
+pub few-of-spec : {M : Type 1} → statement M
+few-of-spec =
+    tie.close
+    (tie.spec
+    Inv-loop
+    μ-loop
+    no-few-requires
+    frame-count-requires
+    at-most-requires
+    loop-holds
+    mul-past
+    add-past
+    past-requires
+    frame-of-requires
+    mul-frames
+    array-set-from-frames
+    add-i
+    loop-less
+    loop-again
+    returns)
