@@ -1,6 +1,7 @@
 //! What lists of calls covered, told from the controller before and after each call: a comparison that never saw a try
 //! lost, or a rung ruled out, would say little.
 
+use crate::counts::{self, Count, Refusals, named, refused};
 use crate::event::{Event, Frame, KINDS};
 use crate::limits::MOST_ENTRIES;
 use crate::oracle::{Answer, Oracle};
@@ -118,11 +119,14 @@ const VERDICTS: [&[usize]; 7] = [
 ];
 const MARKS: [&str; 4] = ["marks 0 0", "marks 1 0", "marks 0 1", "marks 1 1"];
 
+/// The refusals that `trace` can give a table: columns of differing lengths cannot be put to it.
+const TABLES: [usize; 5] = [0, 1, 3, 4, 5];
+
 #[derive(Clone)]
 pub struct Coverage {
-    pub tables: u64,
-    tables_refused: [u64; 6],
-    verdicts: [[u64; 10]; 7],
+    /// Verdicts on tables, and on calls by kind.
+    tables: Refusals,
+    verdicts: [Refusals; 7],
     marks: [u64; 4],
     seen: [u64; NAMES.len()],
 }
@@ -130,9 +134,8 @@ pub struct Coverage {
 impl Default for Coverage {
     fn default() -> Self {
         Self {
-            tables: 0,
-            tables_refused: [0; 6],
-            verdicts: [[0; 10]; 7],
+            tables: [0; 15],
+            verdicts: [[0; 15]; 7],
             marks: [0; 4],
             seen: [0; NAMES.len()],
         }
@@ -140,12 +143,20 @@ impl Default for Coverage {
 }
 
 impl Coverage {
-    pub const fn refused_table(&mut self, number: u32) {
-        self.tables_refused[number as usize] += 1;
+    /// Counts a table: its refusal, or 0.
+    pub const fn table(&mut self, verdict: u32) {
+        self.tables[verdict as usize] += 1;
     }
 
-    /// Looks at one call.
-    pub fn watch(&mut self, before: &Oracle, event: &Event, answer: Answer, after: &Oracle) {
+    /// Has the controller take a call, and looks at what it does.
+    pub fn take(&mut self, oracle: &mut Oracle, event: &Event) -> Answer {
+        let before = oracle.clone();
+        let answer = oracle.take(event);
+        self.watch(&before, event, answer, oracle);
+        answer
+    }
+
+    fn watch(&mut self, before: &Oracle, event: &Event, answer: Answer, after: &Oracle) {
         let kind = usize::from(event.kind()) - 1;
         self.verdicts[kind][answer.verdict as usize] += 1;
         if answer.verdict != 0 {
@@ -366,31 +377,28 @@ impl Coverage {
     }
 
     /// Every count with its name.
-    fn counts(&self) -> Vec<(String, u64)> {
-        let mut all = vec![("table accepted".to_owned(), self.tables)];
-        for number in 1..=5 {
-            // columns of differing lengths cannot be given to `trace`
-            if number != 2 {
-                let count = self.tables_refused[number];
-                all.push((format!("table refused {number}"), count));
-            }
-        }
-        for (kind, numbers) in VERDICTS.iter().enumerate() {
-            for &number in *numbers {
-                let verdict = if number == 0 { "accepted" } else { "refused" };
-                let shown = if number == 0 {
-                    String::new()
-                } else {
-                    format!(" {number}")
-                };
-                let name = format!("{} {verdict}{shown}", KINDS[kind]);
-                all.push((name, self.verdicts[kind][number]));
-            }
-        }
-        let seen = NAMES.iter().zip(self.seen);
-        let marks = MARKS.iter().zip(self.marks);
-        let named = marks.chain(seen);
-        all.extend(named.map(|(name, count)| ((*name).to_owned(), count)));
+    pub fn counts(&self) -> Vec<Count> {
+        let mut all = refused("table", &TABLES, &self.tables);
+        all.extend(self.calls());
+        all
+    }
+
+    /// The counts of calls.
+    pub fn calls(&self) -> Vec<Count> {
+        let kinds = VERDICTS.iter().zip(KINDS).zip(&self.verdicts);
+        let verdicts = kinds.flat_map(|((numbers, kind), counts)| refused(kind, numbers, counts));
+        let mut all: Vec<Count> = verdicts.collect();
+        all.extend(named(&MARKS, &self.marks));
+        all.extend(named(&NAMES, &self.seen));
+        all
+    }
+
+    /// The refusals of tables and calls.
+    pub fn refusals(&self) -> Refusals {
+        let mut all = self.tables;
+        self.verdicts
+            .iter()
+            .for_each(|kind| counts::add(&mut all, kind));
         all
     }
 
@@ -402,43 +410,13 @@ impl Coverage {
             .any(|(own, other)| own.1 == 0 && other.1 > 0)
     }
 
-    /// The names of what was never seen.
-    pub fn never(&self) -> Vec<String> {
-        let counts = self.counts().into_iter();
-        let never = counts.filter(|(_, count)| *count == 0);
-        never.map(|(name, _)| name).collect()
-    }
-
     pub fn add(&mut self, other: &Self) {
-        let own = [
-            self.tables_refused.as_mut_slice(),
-            &mut self.marks,
-            &mut self.seen,
-        ];
-        let others = [other.tables_refused.as_slice(), &other.marks, &other.seen];
-        for (own, other) in own.into_iter().zip(others) {
-            sum(own, other);
-        }
+        counts::add(&mut self.tables, &other.tables);
+        counts::add(&mut self.marks, &other.marks);
+        counts::add(&mut self.seen, &other.seen);
         for (own, other) in self.verdicts.iter_mut().zip(&other.verdicts) {
-            sum(own, other);
+            counts::add(own, other);
         }
-        self.tables += other.tables;
-    }
-
-    /// Prints every count, three a line.
-    pub fn print(&self) {
-        for three in self.counts().chunks(3) {
-            let cells = three
-                .iter()
-                .map(|(name, count)| format!("{name:<28}{count:>10}   "));
-            println!("{}", cells.collect::<String>().trim_end());
-        }
-    }
-}
-
-fn sum(own: &mut [u64], other: &[u64]) {
-    for (own, other) in own.iter_mut().zip(other) {
-        *own += other;
     }
 }
 

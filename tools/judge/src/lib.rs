@@ -2,9 +2,12 @@
 //! the proved code, inputs by class, and comparison bit for bit.
 
 pub mod bits;
+pub mod branches;
+pub mod counts;
 pub mod coverage;
 pub mod draw;
 pub mod event;
+pub mod forms;
 pub mod inputs;
 pub mod limits;
 pub mod natural;

@@ -9,6 +9,8 @@ pub struct Limits {
 
 /// "dB values -200 to 200"
 pub const DB: Limits = Limits::new(-200.0, 200.0);
+/// "slope 0.125 to 16"
+pub const SLOPE: Limits = Limits::new(0.125, 16.0);
 /// "frame time and air 0.001 to 60 s"
 pub const AIR_S: Limits = Limits::new(0.001, 60.0);
 /// "control lengths and gap 0 to 60 s"

@@ -45,16 +45,14 @@ impl List {
         let mut oracle = match Oracle::new(&self.table, self.wide) {
             Ok(oracle) => oracle,
             Err(number) => {
-                coverage.refused_table(number);
+                coverage.table(number);
                 return format!("refused {number}\n");
             }
         };
-        coverage.tables += 1;
+        coverage.table(0);
         let mut lines = format!("table places {}\n", oracle.rate.modes().len());
         for event in &self.events {
-            let before = oracle.clone();
-            let answer = oracle.take(event);
-            coverage.watch(&before, event, answer, &oracle);
+            let answer = coverage.take(&mut oracle, event);
             line(&mut lines, &oracle, answer);
         }
         lines

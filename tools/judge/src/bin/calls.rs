@@ -1,7 +1,9 @@
-//! Compares lists of calls, state by state, with the Rust: `calls [SEED] [LISTS] [FIRST]`, LISTS lists of up to 200
-//! calls, the first of them list FIRST (0). Runs the proved program `trace` (TRACE: its path) on batches of lists and
-//! compares its output byte by byte. Ends with status 1 if any line differs, 2 if there is no `trace`.
+//! Compares lists of calls, state by state, with the Rust: `calls [SEED] [LISTS] [FIRST]`, a call on each listed table
+//! and LISTS drawn lists of up to 200 calls, the first of them list FIRST (0). Runs the proved program `trace` (TRACE:
+//! its path) on batches of lists and compares its output byte by byte. Ends with status 1 if any line differs, 2 if
+//! there is no `trace`.
 
+use judge::counts;
 use judge::coverage::Coverage;
 use judge::draw::lists;
 use judge::program::{self, Answered};
@@ -18,34 +20,44 @@ const SHOWN: u64 = 3;
 fn main() {
     let [seed, lists, first] = arguments([1, 100_000, 0]);
     println!("calls: seed {seed}, {lists} lists from {first}");
-    let mut run = Run::new(seed);
+    let mut run = Run::new();
+    for list in lists::listed() {
+        run.list(list, "listed".to_owned());
+    }
     for number in first..first + lists {
-        run.list(number);
+        let replay = format!("replay: calls {seed} 1 {number}");
+        run.list(drawn(seed, number), replay);
     }
     run.batch();
-    run.coverage.print();
     println!("{} lists differ", run.lists_differing);
+    let covered = run.coverage.counts();
+    counts::print(&covered);
+    counts::covered("calls", &covered, &run.coverage.refusals());
     ended("calls", run.compared, run.differences);
 }
 
 /// A run over all lists: the batch being filled, and what was found so far.
 struct Run {
     program: PathBuf,
-    seed: u64,
     input: Vec<u8>,
-    /// The batch's lists: their numbers and the lines wanted.
-    wanted: Vec<(u64, String)>,
+    wanted: Vec<Wanted>,
     coverage: Coverage,
     compared: u64,
     differences: u64,
     lists_differing: u64,
 }
 
+/// A list of the batch: how to have it again, and the lines wanted.
+struct Wanted {
+    replay: String,
+    list: List,
+    lines: String,
+}
+
 impl Run {
-    fn new(seed: u64) -> Self {
+    fn new() -> Self {
         Self {
             program: program::find(),
-            seed,
             input: Vec::new(),
             wanted: Vec::new(),
             coverage: Coverage::default(),
@@ -56,15 +68,18 @@ impl Run {
     }
 
     /// Puts a list into the batch, after running a batch that has no more room.
-    fn list(&mut self, number: u64) {
-        let list = drawn(self.seed, number);
+    fn list(&mut self, list: List, replay: String) {
         let input = list.input();
         if self.input.len() + input.len() > MOST_INPUT {
             self.batch();
         }
         self.input.extend(input);
         let lines = list.lines(&mut self.coverage);
-        self.wanted.push((number, lines));
+        self.wanted.push(Wanted {
+            replay,
+            list,
+            lines,
+        });
     }
 
     /// Runs the batch and compares the output.
@@ -77,44 +92,42 @@ impl Run {
         let Answered { output, failure } = program::answered(&self.program, &input);
         let text = String::from_utf8_lossy(&output);
         let given = parts(&text);
-        for (at, (number, lines)) in wanted.iter().enumerate() {
-            self.compare(*number, lines, given.get(at).copied().unwrap_or(""));
+        for (at, wanted) in wanted.iter().enumerate() {
+            self.compare(wanted, given.get(at).copied().unwrap_or(""));
         }
         let more = given.len().saturating_sub(wanted.len());
         if let Some(failure) = failure {
-            self.fault(&format!("trace ended with {failure}"), wanted[0].0);
+            self.fault(&format!("trace ended with {failure}"), &wanted[0]);
         } else if more > 0 {
-            self.fault(&format!("trace answered {more} more lists"), wanted[0].0);
+            self.fault(&format!("trace answered {more} more lists"), &wanted[0]);
         }
     }
 
     /// A fault of a whole batch.
-    fn fault(&mut self, what: &str, number: u64) {
+    fn fault(&mut self, what: &str, first: &Wanted) {
         self.differences += 1;
-        println!("differs: {what}, batch from list {number}");
+        println!("differs: {what}, batch from the list ({})", first.replay);
     }
 
-    fn compare(&mut self, number: u64, wanted: &str, given: &str) {
-        self.compared += wanted.lines().count() as u64;
-        if wanted == given {
+    fn compare(&mut self, wanted: &Wanted, given: &str) {
+        let lines = &wanted.lines;
+        self.compared += lines.lines().count() as u64;
+        if lines == given {
             return;
         }
-        self.differences += differing(wanted, given).max(1);
+        self.differences += differing(lines, given).max(1);
         self.lists_differing += 1;
         if self.lists_differing <= SHOWN {
-            self.show(number, wanted, given);
+            self.show(wanted, given);
         }
     }
 
-    /// Prints the list, and the shortest one like it that differs too.
-    fn show(&self, number: u64, wanted: &str, given: &str) {
-        let at = first_difference(wanted, given);
-        println!(
-            "differs: list {number}, line {at} (replay: calls {} 1 {number})",
-            self.seed
-        );
-        show_line(wanted, given, at);
-        let mut list = drawn(self.seed, number);
+    /// Prints where the list differs, and the shortest one like it that differs too.
+    fn show(&self, wanted: &Wanted, given: &str) {
+        let at = first_difference(&wanted.lines, given);
+        println!("differs: line {at} of the list ({})", wanted.replay);
+        show_line(&wanted.lines, given, at);
+        let mut list = wanted.list.clone();
         list.events.truncate(at);
         if !self.differs(&list) {
             println!("  alone and cut off after that line, the list does not differ");

@@ -1,6 +1,7 @@
 //! Compares the proved front with the Rust's, and the proved refusals of tables with document 01's causes 1 to 5:
 //! `fronts [SEED] [SIZE]`, about SIZE tables, each given to both calls. Ends with status 1 if any differ.
 
+use judge::counts::{self, Count, Refusals, named, refused};
 use judge::draw::tables;
 use judge::random::Random;
 use judge::table::Table;
@@ -39,13 +40,17 @@ unsafe extern "C" {
 const UNTOUCHED: u32 = 0x5eed_c0de;
 /// How many differing tables are printed.
 const SHOWN: u64 = 10;
+/// What a table, and a front alone, can be answered: 0 and refusals.
+const TABLES: [usize; 6] = [0, 1, 2, 3, 4, 5];
+const FRONTS: [usize; 4] = [0, 1, 2, 3];
+const TIES: [&str; 3] = ["rungs of equal worth", "of equal threshold", "of both"];
 
 fn main() {
     let [seed, size] = arguments([1, 1_000_000]);
     println!("fronts: seed {seed}, size {size}");
     let mut run = Run::new(seed);
     run.all(size as usize);
-    run.sizes();
+    run.print();
     ended("fronts", run.compared, run.differences);
 }
 
@@ -54,6 +59,8 @@ struct Run {
     random: Random,
     compared: u64,
     differences: u64,
+    /// What all classes covered.
+    covered: Tally,
     /// How many fronts had each size.
     sizes: [u64; 33],
 }
@@ -62,20 +69,20 @@ struct Run {
 #[derive(Default)]
 struct Tally {
     tables: u64,
-    /// Accepted, and refused with 1 to 5.
-    verdicts: [u64; 6],
-    /// The same for the front alone, refused with 1 to 3.
-    fronts: [u64; 4],
+    verdicts: Refusals,
+    /// The verdicts on the front alone.
+    fronts: Refusals,
     /// Tables not refused with rungs of equal worth, equal threshold, and both at once.
     ties: [u64; 3],
 }
 
 impl Run {
-    const fn new(seed: u64) -> Self {
+    fn new(seed: u64) -> Self {
         Self {
             random: Random::new(seed),
             compared: 0,
             differences: 0,
+            covered: Tally::default(),
             sizes: [0; 33],
         }
     }
@@ -108,6 +115,9 @@ impl Run {
             tally.tables += 1;
         }
         line(name, &tally);
+        counts::add(&mut self.covered.verdicts, &tally.verdicts);
+        counts::add(&mut self.covered.fronts, &tally.fronts);
+        counts::add(&mut self.covered.ties, &tally.ties);
     }
 
     /// Compares the front: the proved one, the document's words, and the Rust.
@@ -159,10 +169,17 @@ impl Run {
         }
     }
 
-    fn sizes(&self) {
+    fn print(&self) {
+        let covered = &self.covered;
+        let mut all = refused("table", &TABLES, &covered.verdicts);
+        all.extend(refused("front", &FRONTS, &covered.fronts));
+        all.extend(named(&TIES, &covered.ties));
         let sizes = self.sizes.iter().enumerate();
-        let text: String = sizes.map(|(n, count)| format!(" {n}:{count}")).collect();
-        println!("fronts by size:{text}");
+        all.extend(sizes.map(|(n, count)| -> Count { (format!("front of {n}"), *count) }));
+        counts::print(&all);
+        let mut refusals = covered.verdicts;
+        counts::add(&mut refusals, &covered.fronts);
+        counts::covered("fronts", &all, &refusals);
     }
 }
 
@@ -283,24 +300,23 @@ fn heading() {
 }
 
 fn line(name: &str, tally: &Tally) {
-    row(
-        name,
-        &tally.tables,
-        &tally.verdicts,
-        &tally.fronts,
-        &tally.ties,
-    );
+    let verdicts = TABLES.map(|at| tally.verdicts[at]);
+    let fronts = FRONTS.map(|at| tally.fronts[at]);
+    row(name, &tally.tables, &verdicts, &fronts, &tally.ties);
 }
 
 /// A row: tables, for_table's verdicts, the front's, ties.
-fn row<T: Display>(
+fn row(
     name: &str,
     tables: &impl Display,
-    verdicts: &[T; 6],
-    fronts: &[T; 4],
-    ties: &[T; 3],
+    verdicts: &[impl Display],
+    fronts: &[impl Display],
+    ties: &[impl Display],
 ) {
-    let columns = |cells: &[T]| -> String { cells.iter().map(|c| format!("{c:>8}")).collect() };
     let (verdicts, fronts, ties) = (columns(verdicts), columns(fronts), columns(ties));
     println!("{name:<12}{tables:>8} |{verdicts} |{fronts} |{ties}");
+}
+
+fn columns(cells: &[impl Display]) -> String {
+    cells.iter().map(|cell| format!("{cell:>8}")).collect()
 }

@@ -2,6 +2,8 @@
 //! `decode_probability` too: `numbers [SEED] [SIZE]`, SIZE inputs in all. Ends with status 1 if any differ.
 
 use judge::bits::{Tally, same};
+use judge::branches::Branches;
+use judge::counts::{self, Refusals};
 use judge::inputs::{self, Class, Triple};
 use judge::random::Random;
 use judge::{arguments, ended, rate, standin};
@@ -24,10 +26,18 @@ fn main() {
     println!("numbers: seed {seed}, size {size}");
     heading();
     let mut run = Run::new(seed, size as usize);
-    run.values("half", &inputs::halves(), rate_half, standin::half);
-    run.values("exp", &inputs::powers(), rate_exp, standin::exp);
-    run.probabilities();
+    let mut seen = Branches::default();
+    run.values("half", &inputs::halves(), rate_half, standin::half, |t| {
+        seen.half(t);
+    });
+    run.values("exp", &inputs::powers(), rate_exp, standin::exp, |y| {
+        seen.exp(y);
+    });
+    run.probabilities(|triple| seen.probability(triple));
     println!("the Rust's own decode_probability: {} compared", run.rust);
+    let covered = seen.counts();
+    counts::print(&covered);
+    counts::covered("numbers", &covered, &run.refusals);
     ended("numbers", run.compared, run.differences);
 }
 
@@ -39,6 +49,7 @@ struct Run {
     compared: u64,
     rust: u64,
     differences: u64,
+    refusals: Refusals,
 }
 
 impl Run {
@@ -49,6 +60,7 @@ impl Run {
             compared: 0,
             rust: 0,
             differences: 0,
+            refusals: [0; 15],
         }
     }
 
@@ -59,8 +71,10 @@ impl Run {
         classes: &[Class<f64>],
         ours: extern "C" fn(f64) -> f64,
         theirs: fn(f64) -> f64,
+        mut seen: impl FnMut(f64),
     ) {
         self.classes(name, classes, |x, wrong| {
+            seen(x);
             let (our, their) = (ours(x), theirs(x));
             if !same(our, their) {
                 let [at, our, their] = [x, our, their].map(hex);
@@ -71,10 +85,11 @@ impl Run {
     }
 
     /// Compares `decode_probability`, the proved one and the Rust's.
-    fn probabilities(&mut self) {
+    fn probabilities(&mut self, mut seen: impl FnMut(Triple)) {
         let classes = inputs::probabilities();
         let before = self.compared;
         self.classes("decode_probability", &classes, |triple, wrong| {
+            seen(triple);
             let their = standin::decode_probability(triple[0], triple[1], triple[2]);
             if let Some(answer) = wrong_answer(triple, their) {
                 wrong(answer);
@@ -92,7 +107,7 @@ impl Run {
         &mut self,
         name: &str,
         classes: &[Class<T>],
-        compare: impl Fn(T, &mut dyn FnMut(String)) -> Result<f64, u32>,
+        mut compare: impl FnMut(T, &mut dyn FnMut(String)) -> Result<f64, u32>,
     ) {
         let count = inputs::share(classes, self.part);
         let differences = &mut self.differences;
@@ -105,7 +120,9 @@ impl Run {
         for class in classes {
             let mut tally = Tally::default();
             class.each(count, &mut self.random, |input| {
-                tally.count(compare(input, &mut wrong));
+                let result = compare(input, &mut wrong);
+                self.refusals[result.err().map_or(0, |number| number as usize)] += 1;
+                tally.count(result);
             });
             self.compared += tally.inputs;
             line(name, class.name, &tally);

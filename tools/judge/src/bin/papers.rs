@@ -3,8 +3,10 @@
 //! output slices of several lengths, and to the proved marking with answers of several counts. Ends with status 1 if any
 //! differ.
 
+use judge::counts::{self, Count, Refusals, named, refused};
+use judge::coverage::Coverage;
 use judge::draw::papers::{self, Question};
-use judge::event::KINDS;
+use judge::forms::Forms;
 use judge::paper::{BUFFER, Paper, fitted};
 use judge::random::Random;
 use judge::{arguments, ended};
@@ -30,6 +32,31 @@ const BEHIND: usize = 64;
 /// How many differing papers are printed, and up to which length in full.
 const SHOWN: u64 = 10;
 const SHOWN_BYTES: usize = 4096;
+/// What a sheet, and marking, can answer: 0 and refusals.
+const SHEETS: [usize; 5] = [0, 10, 11, 12, 13];
+const MARKS: [usize; 5] = [0, 10, 11, 12, 14];
+const ANSWERS: [&str; 6] = [
+    "answer right",
+    "answer wrong",
+    "answer that doesn't count",
+    "all that count right",
+    "none that counts right",
+    "none counts",
+];
+/// What no paper can show: each air has a place, and an OFDM rung, that no echo rules out.
+const CANNOT: [&str; 4] = [
+    "no place allowed",
+    "echo: none allowed under",
+    "silence: none allowed",
+    "OFDM refused, all out",
+];
+const ROOMS: [&str; 5] = [
+    "slice exactly long enough",
+    "slice a byte short",
+    "slice empty",
+    "slice otherwise short",
+    "slice longer",
+];
 
 fn main() {
     let [seed, papers, first] = arguments([1, 50_000, 0]);
@@ -49,20 +76,19 @@ struct Run {
     compared: u64,
     differences: u64,
     rows: Vec<Row>,
-    /// Events of sound papers: accepted, and refused with 6 to 9, by kind.
-    kinds: [[u64; 5]; 7],
-    /// Output slices: exactly long enough, a byte short, empty, otherwise short, longer.
-    rooms: [u64; 5],
+    /// What the events of sound papers did, and the lines that they gave.
+    coverage: Coverage,
+    forms: Forms,
+    answers: [u64; ANSWERS.len()],
+    rooms: [u64; ROOMS.len()],
 }
 
 /// What the papers of a name came to.
 struct Row {
     name: &'static str,
     papers: u64,
-    /// Sheets given, and refused with 10 to 13.
-    sheets: [u64; 5],
-    /// Papers marked, and refused with 10, 11, 12 and 14.
-    marks: [u64; 5],
+    sheets: Refusals,
+    marks: Refusals,
 }
 
 impl Run {
@@ -70,16 +96,18 @@ impl Run {
         let row = |name| Row {
             name,
             papers: 0,
-            sheets: [0; 5],
-            marks: [0; 5],
+            sheets: [0; 15],
+            marks: [0; 15],
         };
         Self {
             seed,
             compared: 0,
             differences: 0,
             rows: papers::names().into_iter().map(row).collect(),
-            kinds: [[0; 5]; 7],
-            rooms: [0; 5],
+            coverage: Coverage::default(),
+            forms: Forms::default(),
+            answers: [0; ANSWERS.len()],
+            rooms: [0; ROOMS.len()],
         }
     }
 
@@ -108,7 +136,7 @@ impl Run {
         let whole = sheet.as_deref().map_err(|number| *number);
         for room in rooms(random, whole) {
             let wanted = fitted(whole, room);
-            self.rows[at].sheets[column(wanted.err())] += 1;
+            self.rows[at].sheets[verdict(&wanted)] += 1;
             self.count_room(whole, room);
             let wrong = wrong_sheet(&question.file, room, wanted);
             self.count(wrong, question, replay);
@@ -118,12 +146,14 @@ impl Run {
                 Ok(paper) => paper.marks(&answers),
                 Err(number) => Err(*number),
             };
-            self.rows[at].marks[column(wanted.err()).min(4)] += 1;
+            self.rows[at].marks[verdict(&wanted)] += 1;
+            self.count_answers(answers.len(), wanted);
             let wrong = wrong_marks(&question.file, &answers, wanted);
             self.count(wrong, question, replay);
         }
         if let Ok(paper) = &paper {
             self.count_events(paper);
+            self.forms.sheet(whole.unwrap_or(""));
         }
     }
 
@@ -164,12 +194,25 @@ impl Run {
         self.rooms[column] += 1;
     }
 
+    fn count_answers(&mut self, given: usize, marks: Result<(u32, u32), u32>) {
+        let Ok((right, counted)) = marks else {
+            return;
+        };
+        let seen = [
+            right.into(),
+            (counted - right).into(),
+            given as u64 - u64::from(counted),
+            u64::from(counted > 0 && right == counted),
+            u64::from(counted > 0 && right == 0),
+            u64::from(counted == 0),
+        ];
+        counts::add(&mut self.answers, &seen);
+    }
+
     fn count_events(&mut self, paper: &Paper) {
         let mut oracle = paper.controller();
         for event in &paper.events {
-            let verdict = oracle.take(event).verdict as usize;
-            let column = verdict.saturating_sub(5);
-            self.kinds[usize::from(event.kind()) - 1][column] += 1;
+            self.coverage.take(&mut oracle, event);
         }
     }
 
@@ -177,23 +220,37 @@ impl Run {
         let sheets = ["sheet", "10", "11", "12", "13"];
         let marks = ["marked", "10", "11", "12", "14"];
         print_row("papers", &"papers", &[sheets, marks]);
+        let mut all: Vec<Count> = Vec::new();
+        let (mut sheets, mut marks) = ([0; 15], [0; 15]);
         for row in &self.rows {
-            print_row(row.name, &row.papers, &[row.sheets, row.marks]);
+            let cells = [
+                SHEETS.map(|at| row.sheets[at]),
+                MARKS.map(|at| row.marks[at]),
+            ];
+            print_row(row.name, &row.papers, &cells);
+            all.push((row.name.to_owned(), row.papers));
+            counts::add(&mut sheets, &row.sheets);
+            counts::add(&mut marks, &row.marks);
         }
-        let verdicts = ["accepted", "6", "7", "8", "9"];
-        print_row("events of sound papers", &"", &[verdicts]);
-        for (name, counts) in KINDS.iter().zip(self.kinds) {
-            print_row(name, &"", &[counts]);
-        }
-        let rooms = ["exact", "1 short", "empty", "short", "longer"];
-        print_row("output slices", &"", &[rooms]);
-        print_row("", &"", &[self.rooms]);
+        let mut covered = refused("sheet", &SHEETS, &sheets);
+        covered.extend(refused("marking", &MARKS, &marks));
+        covered.extend(named(&ROOMS, &self.rooms));
+        covered.extend(named(&ANSWERS, &self.answers));
+        covered.extend(self.forms.counts());
+        let calls = self.coverage.calls().into_iter();
+        covered.extend(calls.filter(|(name, _)| !CANNOT.contains(&name.as_str())));
+        counts::print(&covered);
+        all.extend(covered);
+        let mut refusals = self.coverage.refusals();
+        counts::add(&mut refusals, &sheets);
+        counts::add(&mut refusals, &marks);
+        counts::covered("papers", &all, &refusals);
     }
 }
 
-/// The column of an answer: accepted, then the refusals from 10 on.
-fn column(refusal: Option<u32>) -> usize {
-    refusal.map_or(0, |number| number as usize - 9)
+/// 0, or the refusal's number.
+fn verdict<T>(answer: &Result<T, u32>) -> usize {
+    answer.as_ref().err().map_or(0, |number| *number as usize)
 }
 
 /// The lengths of output slices that a paper is tried with.

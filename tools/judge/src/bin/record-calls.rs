@@ -1,6 +1,7 @@
 //! Records a small sample of lists of calls for replay without Rust: `record-calls INPUT LINES [SEED] [LISTS]` writes
 //! what `trace` reads to INPUT, and what it must answer to LINES. Lists that show something new are taken first.
 
+use judge::counts;
 use judge::coverage::Coverage;
 use judge::draw::lists;
 use judge::random::Random;
@@ -25,8 +26,9 @@ fn main() -> io::Result<()> {
     sample.fill(&mut Random::new(!seed), count as usize);
     fs::write(&input, &sample.input)?;
     fs::write(&lines, &sample.lines)?;
-    sample.coverage.print();
-    println!("never: {:?}", sample.coverage.never());
+    let covered = sample.coverage.counts();
+    counts::print(&covered);
+    println!("never: {:?}", counts::never(&covered));
     println!(
         "record-calls: {} lists, {} bytes in, {} bytes out",
         sample.lists,
@@ -49,7 +51,7 @@ impl Sample {
     fn search(&mut self, random: &mut Random, count: usize) {
         for most in [1000, 2000, 4000, 8000] {
             for _ in 0..DRAWN / 4 {
-                if self.lists < count && !self.coverage.never().is_empty() {
+                if self.lists < count && !counts::never(&self.coverage.counts()).is_empty() {
                     let list = lists::list(random, MOST_CALLS);
                     self.take(&list, most, true);
                 }

@@ -8,6 +8,17 @@ use crate::random::Random;
 use crate::table::Table;
 use crate::trace::List;
 
+/// A call on each listed table that `trace` can be given: values at their ends, and lengths.
+pub fn listed() -> Vec<List> {
+    let tables = tables::ends().into_iter().chain(tables::lengths());
+    let list = |table| List {
+        table,
+        wide: true,
+        events: vec![Event::Seed(20.0)],
+    };
+    tables.filter(tables::even).map(list).collect()
+}
+
 /// A list of up to `most` calls on a table of any kind.
 pub fn list(random: &mut Random, most: usize) -> List {
     if random.chance(6) {

@@ -5,7 +5,7 @@ use super::damage::{BODIES, Bodies, FILES, set};
 use super::lists;
 use super::samples::{bursts, sample_event, sample_frame, short_event};
 use crate::event::Event;
-use crate::limits::{MOST_EVENTS, MOST_FILE};
+use crate::limits::{MOST_ENTRIES, MOST_EVENTS, MOST_FILE};
 use crate::paper;
 use crate::random::Random;
 
@@ -43,7 +43,7 @@ pub fn question(random: &mut Random) -> Question {
 }
 
 /// Short question files, one after the other: bodies of each kind at each length and with each byte changed, and the
-/// header and pairs of a file of two events with each byte changed.
+/// header and pairs of a file of two events with each byte changed; and papers where every rung is worth 0.
 pub fn listed() -> Vec<Question> {
     let mut all = Vec::new();
     for kind in 1..=7 {
@@ -66,12 +66,33 @@ pub fn listed() -> Vec<Question> {
         let name = EACH_HEADER;
         all.push(Question { name, file });
     }
+    all.extend([1, 2].into_iter().flat_map(ties));
     all
+}
+
+/// Papers of an air whose readings are so low that every rung is worth 0: at the seed, and at an echo that may rule the
+/// choice out, from each place.
+fn ties(air: u32) -> Vec<Question> {
+    let fallen = |steps| {
+        let (share, snr_db) = (Some(1.0), 20.0);
+        let low = Event::Snr(Some(-200.0));
+        let echo = Event::Echo { share, snr_db };
+        vec![Event::Seed(20.0), Event::Silence(steps), low, echo]
+    };
+    let mut lists: Vec<Vec<Event>> = (0..MOST_ENTRIES as u32).map(fallen).collect();
+    lists.push(vec![Event::Seed(-200.0)]);
+    let question = |events: Vec<Event>| {
+        let bodies: Bodies = events.iter().map(Event::body).collect();
+        let file = paper::file(air, &bodies);
+        Question { name: TIES, file }
+    };
+    lists.into_iter().map(question).collect()
 }
 
 const EACH_LENGTH: &str = "each length of a body";
 const EACH_BYTE: &str = "each byte of a body";
 const EACH_HEADER: &str = "each byte before bodies";
+const TIES: &str = "every rung worth 0";
 
 fn single(name: &'static str, body: Vec<u8>) -> Question {
     let file = paper::file(1, &[body]);
@@ -86,7 +107,7 @@ fn changes(length: usize) -> impl Iterator<Item = (usize, u8)> {
 
 /// Every name that a question may have.
 pub fn names() -> Vec<&'static str> {
-    let mut names = vec![EACH_LENGTH, EACH_BYTE, EACH_HEADER, "sound"];
+    let mut names = vec![EACH_LENGTH, EACH_BYTE, EACH_HEADER, TIES, "sound"];
     names.extend(SIZES.map(|entry| entry.0));
     names.extend(COUNTS.map(|entry| entry.0));
     names.extend(BODIES.map(|entry| entry.0));

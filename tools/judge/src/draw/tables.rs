@@ -189,16 +189,21 @@ pub fn faults(random: &mut Random) -> Table {
 pub fn even_fault(random: &mut Random) -> Table {
     loop {
         let table = one_fault(random);
-        let (rungs, echo) = (table.rungs(), table.echo.len());
-        let lengths = [
-            table.payload.len(),
-            table.capacity.len(),
-            table.frame_s.len(),
-        ];
-        if lengths == [rungs; 3] && rungs.max(echo) <= MOST_ENTRIES {
+        if even(&table) {
             return table;
         }
     }
+}
+
+/// Whether a table can be given to `trace`: columns of one length, and none over 32.
+pub fn even(table: &Table) -> bool {
+    let (rungs, echo) = (table.rungs(), table.echo.len());
+    let lengths = [
+        table.payload.len(),
+        table.capacity.len(),
+        table.frame_s.len(),
+    ];
+    lengths == [rungs; 3] && rungs.max(echo) <= MOST_ENTRIES
 }
 
 fn fault(random: &mut Random, table: &mut Table) {
