@@ -1,0 +1,125 @@
+-- What holds of every controller that calls can leave: each of its numbers is finite and lies within named bounds, and so does each value and price that it compares.
+-- So no comparison meets a NaN, and "v > b" of document 01 is the test "not v <= b" of the Rust. Definitions only.
+use mathlib.Core.Path.{_≡_}
+use mathlib.Core.Bool.{not}
+use mathlib.Core.List.{List}
+use Prim.Native.Nat.{ℕ, _≤_}
+use lib.Dec.{T}
+use lib.Ieee.{Float, neg, le, lt}
+use lib.Ieee.Scale.{finite}
+use Rattle.float.specs.Numbers.{f64, within, f0, f1, f2}
+use Rattle.limits.specs.Values.{f200, f60, milli, okDb}
+use Rattle.limits.specs.declared.refusal.Verdict.the-variants.{Accepted}
+use Rattle.ladder.specs.declared.types.Reading.{Reading}
+use Rattle.ladder.specs.declared.types.Reading.the-variants.{Missing, Value}
+use Rattle.ladder.specs.declared.types.Table.{Table}
+use Rattle.ladder.specs.Tables.{priorMargin}
+use Rattle.ladder.specs.Types.{row}
+use Rattle.account.specs.declared.types.Account.{Account}
+use Rattle.account.specs.declared.types.Tariff.{Tariff}
+use Rattle.account.specs.declared.types.Prices.{Prices}
+use Rattle.account.specs.declared.types.State.{State}
+use Rattle.account.specs.State.{account, timeOf, waitOf}
+use Rattle.account.specs.Price.{burstOr, estimate, estimateAt, lossless, priced, value, losslessPrice}
+use Rattle.steps.specs.declared.types.Frame.{Frame}
+use Rattle.steps.specs.Echo.{observeSnr}
+use Rattle.steps.specs.Booking.{f5, f20, booked}
+use Rattle.steps.specs.Tries.{judgeAbove}
+use Rattle.steps.specs.Transmission.{inside}
+use Rattle.rate.specs.declared.types.RateController.{RateController}
+use Rattle.rate.specs.Calls.{Call, Frames, verdict, after}
+use Rattle.waiting.specs.Waiting.{Fresh}
+
+-- ---- a number within its bounds
+-- neither an infinity nor a NaN, and from lo to hi
+abbrev pub Lies : Float → Float → Float → Type 0
+Lies lo hi x = T (finite x) × T (within lo hi x)
+
+-- a reading that is missing has no number
+abbrev pub LiesIn : Float → Float → Reading → Type 0
+LiesIn lo hi Missing = Unit
+LiesIn lo hi (Value x) = Lies lo hi x
+
+-- ---- the bounds that no document states
+-- 73000.0, 1070.0 and 18.0: what an account tends to when every frame is its rung's own, with 4,096 bytes and 60 s, is just below these
+abbrev pub mostBytes : Float
+mostBytes = f64 0x40f1_d280_0000_0000
+
+abbrev pub mostAir : Float
+mostAir = f64 0x4090_b800_0000_0000
+
+abbrev pub mostFrames : Float
+mostFrames = f64 0x4032_0000_0000_0000
+
+-- 2^120: a time since a try that is so long grows no further, as what is added is lost in rounding
+abbrev pub longest : Float
+longest = f64 0x4770_0000_0000_0000
+
+-- 2^26, above what 73,000 bytes and the prior come to over the shortest air; and 2^52, above that after the price's product and quotient
+abbrev pub mostRate : Float
+mostRate = f64 0x4190_0000_0000_0000
+
+abbrev pub mostValue : Float
+mostValue = f64 0x4330_0000_0000_0000
+
+-- ---- the table, the prices and the state. A rung is any number: past the table's rows the definitions read a blank one, of which the same holds
+pub record TableLies (t : Table) : Type 0 where
+  pub thresholds : (r : ℕ) → Lies (neg f200) f200 (row t r .threshold)
+  pub times : (r : ℕ) → Lies milli f60 (row t r .time)
+  pub limits : (r : ℕ) → LiesIn f0 f1 (row t r .limit)
+  pub capacities : (r : ℕ) → row t r .capacity ≤ 4096
+  pub margin : Lies f0 priorMargin (t .margin)
+  pub gain : Lies f0 f1 (t .gain)
+
+pub record TariffLies (p : Tariff) : Type 0 where
+  pub floor : Lies f0 f60 (p .floor)
+  pub ordinary : Lies f0 f60 (p .ordinary)
+  pub gap : Lies f0 f60 (p .gap)
+  pub bursts : (r : ℕ) → burstOr p r 0 ≤ 1000
+
+pub record AccountLies (a : Account) : Type 0 where
+  pub bytes : Lies f0 mostBytes (a .bytes)
+  pub air : Lies f0 mostAir (a .air)
+  pub frames : Lies f0 mostFrames (a .frames)
+
+pub record StateLies (s : State) : Type 0 where
+  pub accounts : (r : ℕ) → AccountLies (account s r)
+  pub times : (r : ℕ) → Lies f0 longest (timeOf s r)
+  pub waits : (r : ℕ) → waitOf s r ≤ 48
+  pub snr : LiesIn (neg f200) f200 (s .snr)
+  pub echo : LiesIn f0 f1 (s .echo)
+  pub floor-offset : Lies (neg f5) f20 (s .offsets .floor)
+  pub ofdm-offset : Lies (neg f5) f20 (s .offsets .ofdm)
+
+-- ---- what is compared
+-- "x > y" and "not x <= y" are one test: a NaN would part them
+abbrev pub OneTest : Float → Float → Type 0
+OneTest x y = lt y x ≡ not (le x y)
+
+pub record Compared (t : Table) (p : Prices) (s : State) : Type 0 where
+  pub estimates : (r : ℕ) → Lies f0 mostRate (estimate t s r)
+  pub values : (r : ℕ) → Lies f0 mostValue (value t p s r)
+  pub lossless-rates : (r : ℕ) → Lies f0 mostRate (lossless t r)
+  pub lossless-prices : (r : ℕ) → Lies f0 mostValue (losslessPrice t p r)
+  -- what `first_mode` and `seed` compare, at every SNR that they accept
+  pub first-values : (snr : Float) → T (okDb snr) → (r : ℕ) → Lies f0 mostValue (priced t p r (estimateAt t s r (Value snr)))
+  -- a value against a value, a lossless price against a value, and "over 2 decayed frames"
+  pub value-over-value : (r q : ℕ) → OneTest (value t p s r) (value t p s q)
+  pub price-over-value : (r q : ℕ) → OneTest (losslessPrice t p r) (value t p s q)
+  pub frames-over-two : (r : ℕ) → OneTest (account s r .frames) f2
+
+-- ---- the claim
+pub record Finite (k : RateController) : Type 0 where
+  pub table : TableLies (k .table)
+  pub tariff : TariffLies (k .prices .tariff)
+  pub state : StateLies (k .state)
+  pub compared : Compared (k .table) (k .prices) (k .state)
+  -- inside a call with frames that is accepted: where the first n rungs are judged, and where `decide` is asked
+  pub judging : (fs : List Frame) (snr : Reading) (n : ℕ) → verdict (k .table) (Frames fs snr) ≡ Accepted
+      → let s = judgeAbove n 0 (k .table) (k .prices) fs (booked (k .table) (observeSnr (k .state) snr) fs) in StateLies s × Compared (k .table) (k .prices) s
+  pub deciding : (fs : List Frame) (snr : Reading) → verdict (k .table) (Frames fs snr) ≡ Accepted
+      → let s = inside (k .table) (k .prices) (k .state) fs snr in StateLies s × Compared (k .table) (k .prices) s
+
+-- of every controller that a list of calls leaves of a fresh one, refused calls included
+abbrev pub AlwaysFinite : Type 0
+AlwaysFinite = (k : RateController) → Fresh k → (calls : List Call) → Finite (after k calls)
