@@ -8,7 +8,7 @@ use lib.ListN.{length, getD, take}
 use lib.Seq.{getD-take}
 use lib.Ieee.{Float, ofBits, neg, mul, le}
 use lib.Ieee.Fits.{and-l, and-r}
-use Rattle.float.specs.Numbers.{f0, f1}
+use Rattle.float.specs.Numbers.{ofNat, f0, f1}
 use Rattle.limits.specs.Values.{f200, f60, milli, okDb, okAir, okBytes, okLength}
 use Rattle.limits.specs.declared.refusal.Verdict.the-variants.{Accepted}
 use Rattle.ladder.specs.declared.types.Reading.{Reading}
@@ -35,8 +35,11 @@ use Rattle.finite.proofs.Ranges.{Range, _to_, In, scales}
 abbrev pub decibels : Range
 decibels = neg f200 to f200
 
-abbrev pub airs : Range
-airs = milli to f60
+abbrev pub airTimes : Range
+airTimes = milli to f60
+
+abbrev pub capacities : Range
+capacities = ofNat 0 to ofNat 4096
 
 abbrev pub lengths : Range
 lengths = f0 to f60
@@ -61,7 +64,7 @@ times = f0 to longest
 pub record RowIn (a : Row) : Type 0 where
   pub threshold : In decibels (a .threshold)
   pub capacity : a .capacity ≤ 4096
-  pub time : In airs (a .time)
+  pub time : In airTimes (a .time)
   pub limit : T (okLimit (a .limit))
 
 pub record TableIn (t : Table) : Type 0 where

@@ -160,13 +160,13 @@ scales k a c = (finite k && le zero64 k) && bounded a && holds c (scaled k a)
 
 -- the three parts of such a test
 module _ (p q r : Bool) (e : T (p && q && r)) where
-  first : T p
+  pub first : T p
   first = and-l p q (and-l (p && q) r e)
 
-  second : T q
+  pub second : T q
   second = and-r p q (and-l (p && q) r e)
 
-  third : T r
+  pub third : T r
   third = and-r (p && q) r e
 
 module _ (a b c : Range) (x y : Float) (h : In a x) (k : In b y) where

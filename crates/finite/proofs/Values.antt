@@ -28,7 +28,7 @@ use Rattle.account.specs.Price.{offset, chanceAt, priorOf, estimateOf, estimate
 use Rattle.account.proofs.FullAir.{TariffSound}
 use Rattle.finite.specs.Finite.{mostBytes, mostAir, mostFrames, mostRate, mostValue, Lies, Compared}
 use Rattle.finite.proofs.Ranges.{Range, _to_, In, bounded, in-by, in-finite, in-number, widen, _⊞_, _⊟_, _⊠_, scaled, holds, sums, differences, products, quotients, scales, sum-in, difference-in, product-in, quotient-in, scaled-in, counts, one-test}
-use Rattle.finite.proofs.Bounds.{decibels, airs, lengths, shares, margins, offsets, RowIn, TableIn, TariffIn, AccountIn, Held, all-any}
+use Rattle.finite.proofs.Bounds.{decibels, airTimes, capacities, lengths, shares, margins, offsets, RowIn, TableIn, TariffIn, AccountIn, Held, all-any}
 
 -- ---- a probability
 pub share-in : (p : Float) → Share p → In shares p
@@ -45,10 +45,7 @@ chance-in threshold margin off snr ht hm ho hs =
     share-in (chanceAt threshold margin off snr)
     (probability-share (x ⊖ margin) threshold f½ (in-number (decibels ⊟ offsets ⊟ margins) (x ⊖ margin) (chance-ends .2) y) (in-finite decibels threshold (chance-ends .3) ht) (chance-ends .4))
 
--- ---- the prior, of a capacity up to 4,096
-abbrev capacities : Range
-capacities = ofNat 0 to ofNat 4096
-
+-- ---- the prior
 abbrev priors : Range
 priors = f0 to ofNat 4096
 
@@ -70,20 +67,20 @@ abbrev delivered : Range
 delivered = (f0 to mostBytes) ⊞ scaled f2 priors
 
 abbrev spent : Range
-spent = (f0 to mostAir) ⊞ scaled f2 airs
+spent = (f0 to mostAir) ⊞ scaled f2 airTimes
 
-estimate-ends : T (scales f2 priors (scaled f2 priors)) × T (sums (f0 to mostBytes) (scaled f2 priors) delivered) × T (scales f2 airs (scaled f2 airs)) × T (sums (f0 to mostAir) (scaled f2 airs) spent) × T (quotients delivered spent rates)
+estimate-ends : T (scales f2 priors (scaled f2 priors)) × T (sums (f0 to mostBytes) (scaled f2 priors) delivered) × T (scales f2 airTimes (scaled f2 airTimes)) × T (sums (f0 to mostAir) (scaled f2 airTimes) spent) × T (quotients delivered spent rates)
 unfolding ofBits ofInt round add mul div le
 estimate-ends = (tt, tt, tt, tt, tt)
 
-estimate-in : (a : Account) (prior time : Float) → AccountIn a → In priors prior → In airs time → In rates (estimateOf a prior time)
+estimate-in : (a : Account) (prior time : Float) → AccountIn a → In priors prior → In airTimes time → In rates (estimateOf a prior time)
 estimate-in a prior time h hp ht =
     quotient-in delivered spent rates (a .bytes ⊕ f2 ⊗ prior) (a .air ⊕ f2 ⊗ time)
     (sum-in (f0 to mostBytes) (scaled f2 priors) delivered (a .bytes) (f2 ⊗ prior) (h .bytes) (scaled-in f2 priors (scaled f2 priors) prior hp (estimate-ends .0)) (estimate-ends .1))
-    (sum-in (f0 to mostAir) (scaled f2 airs) spent (a .air) (f2 ⊗ time) (h .air) (scaled-in f2 airs (scaled f2 airs) time ht (estimate-ends .2)) (estimate-ends .3))
+    (sum-in (f0 to mostAir) (scaled f2 airTimes) spent (a .air) (f2 ⊗ time) (h .air) (scaled-in f2 airTimes (scaled f2 airTimes) time ht (estimate-ends .2)) (estimate-ends .3))
     (estimate-ends .4)
 
-lossless-ends : T (quotients capacities airs rates)
+lossless-ends : T (quotients capacities airTimes rates)
 unfolding ofBits ofInt round div le
 lossless-ends = tt
 
@@ -95,9 +92,9 @@ abbrev overheads : Range
 overheads = lengths ⊞ lengths ⊞ lengths
 
 abbrev bursts : Range
-bursts = (ofNat 1 to ofNat 1000) ⊠ airs
+bursts = (ofNat 1 to ofNat 1000) ⊠ airTimes
 
-price-ends : T (sums lengths lengths (lengths ⊞ lengths)) × T (sums (lengths ⊞ lengths) lengths overheads) × T (products (ofNat 1 to ofNat 1000) airs bursts) × T (products rates bursts (rates ⊠ bursts)) × T (sums bursts overheads (bursts ⊞ overheads)) × T (quotients (rates ⊠ bursts) (bursts ⊞ overheads) values) × T (holds values rates)
+price-ends : T (sums lengths lengths (lengths ⊞ lengths)) × T (sums (lengths ⊞ lengths) lengths overheads) × T (products (ofNat 1 to ofNat 1000) airTimes bursts) × T (products rates bursts (rates ⊠ bursts)) × T (sums bursts overheads (bursts ⊞ overheads)) × T (quotients (rates ⊠ bursts) (bursts ⊞ overheads) values) × T (holds values rates)
 unfolding ofBits ofInt round add mul div le
 price-ends = (tt, tt, tt, tt, tt, tt, tt)
 
@@ -113,12 +110,12 @@ at-least-one : (n : ℕ) → T (not (eqb n 0)) → 1 ≤ n
 at-least-one zero h = absurd h
 at-least-one (suc n) h = omega arith
 
-priced-in : (given : Bool) (n : ℕ) (time over x : Float) → n ≤ 1000 → In airs time → In overheads over → In rates x → In values (pricedOf given n time over x)
+priced-in : (given : Bool) (n : ℕ) (time over x : Float) → n ≤ 1000 → In airTimes time → In overheads over → In rates x → In values (pricedOf given n time over x)
 priced-in given n time over x hn ht ho hx =
     let a = ofNat n ⊗ time in
     pick-by (In values) (given && not (eqb n 0))
     (λ e.
-    let b = product-in (ofNat 1 to ofNat 1000) airs bursts (ofNat n) time (counts 1 n 1000 (at-least-one n (and-r given (not (eqb n 0)) (yes-of e))) hn) ht (price-ends .2) in
+    let b = product-in (ofNat 1 to ofNat 1000) airTimes bursts (ofNat n) time (counts 1 n 1000 (at-least-one n (and-r given (not (eqb n 0)) (yes-of e))) hn) ht (price-ends .2) in
     quotient-in (rates ⊠ bursts) (bursts ⊞ overheads) values (x ⊗ a) (a ⊕ over)
     (product-in rates bursts (rates ⊠ bursts) x a hx b (price-ends .3)) (sum-in bursts overheads (bursts ⊞ overheads) a over b ho (price-ends .4)) (price-ends .5))
     (λ e. widen rates values x (price-ends .6) hx)
@@ -157,7 +154,7 @@ module _ (t : Table) (p : Prices) (s : State) (ts : TableIn t) (ps : TariffIn (p
 
   lossless-in : (r : ℕ) → In rates (lossless t r)
   unfolding lossless
-  lossless-in r = quotient-in capacities airs rates (ofNat (row t r .capacity)) (row t r .time) (counts 0 (row t r .capacity) 4096 (omega arith) (ts .rows r .capacity)) (ts .rows r .time) lossless-ends
+  lossless-in r = quotient-in capacities airTimes rates (ofNat (row t r .capacity)) (row t r .time) (counts 0 (row t r .capacity) 4096 (omega arith) (ts .rows r .capacity)) (ts .rows r .time) lossless-ends
 
   price-in : (r : ℕ) (x : Float) → In rates x → In values (priced t p r x)
   unfolding priced
