@@ -1,7 +1,7 @@
--- What frames alone move stays within its bounds. An account ages by a share, and what its own rung gains is no more than the ageing takes of a full one; an offset
--- is clamped, and what is clamped is no NaN; a time that has reached its bound is lost no air in rounding. Assumes nothing.
+-- What frames alone move stays within its bounds. An account ages by a share, and a full one loses more by its own rung's ageing than it then gains; an offset is
+-- clamped, and what is clamped is no NaN; what is added to a time at its bound is lost in rounding. Assumes nothing.
 use mathlib.Core.Path.{_≡_, sym, subst}
-use mathlib.Core.Bool.{Bool, true, false, not, _&&_, cond}
+use mathlib.Core.Bool.{Bool, _&&_, cond}
 use mathlib.Core.List.{List, [], _∷_}
 use Prim.Native.Nat.{ℕ, zero, suc, _≤_}
 use native.Mathlib.Omega.{arith}

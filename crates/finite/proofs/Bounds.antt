@@ -1,6 +1,6 @@
 -- The ranges of a controller's numbers, and what holds of its table, prices and state: a table that was accepted has it. Assumes nothing.
-use mathlib.Core.Path.{_≡_, sym, subst}
-use mathlib.Core.Bool.{Bool, true, false, _&&_, cond}
+use mathlib.Core.Path.{_≡_, subst}
+use mathlib.Core.Bool.{Bool}
 use mathlib.Core.List.{List, [], _∷_}
 use Prim.Native.Nat.{ℕ, zero, suc, _≤_}
 use lib.Dec.{T, ltb, ltb→lt, leb→le}
@@ -9,7 +9,7 @@ use lib.Seq.{getD-take}
 use lib.Ieee.{Float, ofBits, neg, mul, le}
 use lib.Ieee.Fits.{and-l, and-r}
 use Rattle.float.specs.Numbers.{ofNat, f0, f1}
-use Rattle.limits.specs.Values.{f200, f60, milli, okDb, okAir, okBytes, okLength}
+use Rattle.limits.specs.Values.{f200, f60, milli, okDb, okAir, okBytes}
 use Rattle.limits.specs.declared.refusal.Verdict.the-variants.{Accepted}
 use Rattle.ladder.specs.declared.types.Reading.{Reading}
 use Rattle.ladder.specs.declared.types.Reading.the-variants.{Missing}
@@ -17,7 +17,7 @@ use Rattle.ladder.specs.declared.types.Row.{Row}
 use Rattle.ladder.specs.declared.types.Table.{Table}
 use Rattle.ladder.specs.Lists.{every, tabulate}
 use Rattle.ladder.specs.Types.{noRow, row, okLimit, okSnr}
-use Rattle.ladder.specs.Tables.{Columns, tableVerdict, limitAt, rowOf, rowsOf, priorMargin, familyGain, tableOf, forAir}
+use Rattle.ladder.specs.Tables.{Columns, tableVerdict, rowOf, rowsOf, priorMargin, familyGain, tableOf, forAir}
 use Rattle.ladder.proofs.Cases.{pick, pick-by, yes-of}
 use Rattle.ladder.proofs.Entries.{All}
 use Rattle.ladder.proofs.Accepted.{accepted-columns, Within, table-values}
@@ -25,7 +25,6 @@ use Rattle.account.specs.declared.types.Account.{Account}
 use Rattle.account.specs.declared.types.Offsets.{Offsets}
 use Rattle.account.specs.declared.types.Tariff.{Tariff}
 use Rattle.account.specs.declared.types.State.{State}
-use Rattle.account.specs.State.{noAccount}
 use Rattle.account.proofs.FullAir.{TariffSound, IsWait}
 use Rattle.steps.specs.Booking.{f5, f20}
 use Rattle.finite.specs.Finite.{mostBytes, mostAir, mostFrames, longest}

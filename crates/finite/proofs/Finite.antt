@@ -3,7 +3,6 @@
 use mathlib.Core.Path.{_≡_}
 use mathlib.Core.Bool.{_&&_}
 use mathlib.Core.List.{List, [], _∷_}
-use Prim.Native.Nat.{ℕ}
 use native.Mathlib.Omega.{arith}
 use lib.Dec.{T, leb}
 use lib.ListN.{length}
@@ -25,6 +24,7 @@ use Rattle.account.specs.declared.types.Account.{Account}
 use Rattle.account.specs.declared.types.Tariff.{Tariff}
 use Rattle.account.specs.declared.types.State.{State}
 use Rattle.account.specs.State.{noAccount, account, timeOf}
+use Rattle.account.specs.Price.{waitSeconds}
 use Rattle.account.proofs.FullAir.{TariffSound, IsWait}
 use Rattle.steps.specs.declared.types.Frame.{Frame}
 use Rattle.steps.specs.Echo.{silent, observeEcho}
@@ -35,17 +35,17 @@ use Rattle.rate.specs.Calls.{Call, Frames, Echo, Silence, Snr, Seed, Price, Fam
 use Rattle.rate.proofs.Stepping.{by-verdict}
 use Rattle.waiting.specs.Waiting.{Fresh, fresh}
 use Rattle.waiting.proofs.Sound.{Sound, step-sound, fresh-sound}
-use Rattle.finite.specs.Finite.{Lies, LiesIn, mostBytes, mostAir, mostFrames, TableLies, TariffLies, AccountLies, StateLies, Compared, Finite, AlwaysFinite}
+use Rattle.finite.specs.Finite.{Lies, LiesIn, mostBytes, mostAir, mostFrames, TableLies, TariffLies, AccountLies, StateLies, FiniteAt, Finite, AlwaysFinite}
 use Rattle.finite.proofs.Ranges.{Range, _to_, In, bounded, in-finite}
-use Rattle.finite.proofs.Bounds.{decibels, airTimes, lengths, shares, margins, offsets, times, RowIn, TableIn, TariffIn, AccountIn, Held, all-any, made-in}
+use Rattle.finite.proofs.Bounds.{decibels, airTimes, lengths, shares, margins, offsets, times, TableIn, TariffIn, AccountIn, Held, all-any, made-in}
 use Rattle.finite.proofs.Values.{burst-small, no-account-in, compared}
 use Rattle.finite.proofs.Booking.{FrameIn, frames-in, zero-time}
-use Rattle.finite.proofs.Steps.{snr-held, echo-held, seed-held, judging-held, inside-held, frames-held}
+use Rattle.finite.proofs.Steps.{wait-in, snr-held, echo-held, seed-held, judging-held, inside-held, frames-held}
 
-pub record Kept (k : RateController) : Type 0 where
-  pub table : TableIn (k .table)
-  pub tariff : TariffIn (k .prices .tariff)
-  pub state : Held (k .state)
+record Kept (k : RateController) : Type 0 where
+  table : TableIn (k .table)
+  tariff : TariffIn (k .prices .tariff)
+  state : Held (k .state)
 
 -- ---- what is accepted
 frames-ok : (t : Table) (fs : List Frame) (snr : Reading) → verdict t (Frames fs snr) ≡ Accepted → All FrameIn fs × T (okSnr snr)
@@ -171,12 +171,15 @@ kept-finite : (k : RateController) → Kept k → Finite k
 kept-finite k h =
     let t = k .table in
     let p = k .prices in
-    let at : (s : State) → Held s → StateLies s × Compared t p s = λ s g. (state-lies s g, compared t p s (h .table) (h .tariff) g) in
+    let at : (s : State) → Held s → FiniteAt t p s = λ s g. record {
+      state = state-lies s g;
+      seconds = λ r. lies times (waitSeconds t (p .tariff) s r) (ends .6) (wait-in t p (h .table) (h .tariff) s r g);
+      compared = compared t p s (h .table) (h .tariff) g;
+    } in
     record {
       table = table-lies t (h .table);
       tariff = tariff-lies (p .tariff) (h .tariff);
-      state = state-lies (k .state) (h .state);
-      compared = compared t p (k .state) (h .table) (h .tariff) (h .state);
+      state = at (k .state) (h .state);
       judging = λ fs snr n e. let ok = frames-ok t fs snr e in at _ (judging-held t p (h .table) (h .tariff) (k .state) fs snr (ok .0) (ok .1) (h .state) n);
       deciding = λ fs snr e. let ok = frames-ok t fs snr e in at _ (inside-held t p (h .table) (h .tariff) (k .state) fs snr (ok .0) (ok .1) (h .state));
     }

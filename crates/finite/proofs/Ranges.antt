@@ -1,6 +1,6 @@
 -- Ranges of floats: what lies between two finite ends, and the ranges of sums, products, differences and quotients. Rounding keeps the order, so an operation's
 -- result lies between the results at the ends, and that those lie in a range is one test that antt computes. Assumes nothing.
-use mathlib.Core.Path.{_≡_, refl, sym, subst}
+use mathlib.Core.Path.{_≡_, refl}
 use mathlib.Core.Logic.{inl, inr}
 use mathlib.Core.Bool.{Bool, true, false, not, _&&_}
 use Prim.Native.Nat.{ℕ, _+_, _*_, _≤_}
@@ -8,13 +8,13 @@ use native.Mathlib.Nat.{lt-irrefl, zero-mul, mul-comm, mul-assoc, mul-left-comm,
 use native.Mathlib.Omega.{arith}
 use lib.Dec.{T}
 use lib.Pow.{pow-pos}
-use lib.Ieee.{Float, nan, inf, fin, binary64, neg, round, ofInt, mul, div, le, lt}
+use lib.Ieee.{Float, nan, inf, fin, binary64, neg, ofInt, le, lt}
 use lib.Ieee.Fits.{and-i, and-l, and-r}
 use lib.Ieee.Order.{round-mono}
 use lib.Ieee.Scale.{finite}
 use lib.Ieee.Positive.{den, den-pos, positive, positive-finite, between}
 use Rattle.float.specs.Numbers.{_⊕_, _⊖_, _⊗_, _⊘_, ofNat, within}
-use Rattle.float.proofs.Order.{plus, minus, number, le→LE, lt→LT, le-le, le-self, lt-le-lt, not-lt}
+use Rattle.float.proofs.Order.{plus, minus, number, le→LE, lt→LT, le-le, lt-le-lt, not-lt}
 use Rattle.float.proofs.Rounding.{rounds-mono, mul-rounds, neg-le, zero64}
 use Rattle.float.proofs.Monotone.{natural, cross, no-minus, add-mono-finite, sub-is, neg-finite, mul-mono-finite, between-limits, finite-number}
 use Rattle.float.proofs.Division.{plus-pos, div-rounds, div-mono}
@@ -26,7 +26,7 @@ factors pc dc px nx dx px' nx' dx' h =
     let u = simp (add-mul, mul-assoc, mul-comm, mul-left-comm) at (mul-le-mul-right (pc * dc) h) in
     simp (mul-assoc, mul-comm, mul-left-comm) (omega arith)
 
-pub scale-mono : (c x x' : Float) → T (finite c) → natural c → T (finite x) → T (finite x') → T (le x x') → T (le (c ⊗ x) (c ⊗ x'))
+scale-mono : (c x x' : Float) → T (finite c) → natural c → T (finite x) → T (finite x') → T (le x x') → T (le (c ⊗ x) (c ⊗ x'))
 scale-mono c x x' fc nc fx fx' h =
     rounds-mono binary64 (plus c * plus x + minus c * minus x) (plus c * minus x + minus c * plus x) (den c * den x) (plus c * plus x' + minus c * minus x') (plus c * minus x' + minus c * plus x') (den c * den x')
     (c ⊗ x) (c ⊗ x') (mul-pos (den-pos c) (den-pos x)) (mul-pos (den-pos c) (den-pos x')) (mul-rounds binary64 c x fc fx) (mul-rounds binary64 c x' fc fx')
@@ -44,7 +44,7 @@ no-minus-positive (inf s) q = refl
 no-minus-positive (fin true n d) q = absurd q
 no-minus-positive (fin false n d) q = refl
 
-pub div-anti : (x y y' : Float) → T (finite x) → natural x → T (positive y) → T (positive y') → T (le y y') → T (le (x ⊘ y') (x ⊘ y))
+div-anti : (x y y' : Float) → T (finite x) → natural x → T (positive y) → T (positive y') → T (le y y') → T (le (x ⊘ y') (x ⊘ y))
 div-anti x y y' fx nx q q' h =
     let zx = no-minus x fx nx in
     let zy = no-minus-positive y q in
@@ -92,20 +92,20 @@ abbrev pub holds : Range → Range → Bool
 holds b a = le (b .lo) (a .lo) && le (a .hi) (b .hi)
 
 module _ (a : Range) (x : Float) where
-  pub from-lo : In a x → T (le (a .lo) x)
+  from-lo : In a x → T (le (a .lo) x)
   from-lo h = and-l (le (a .lo) x) (le x (a .hi)) h
 
-  pub up-to-hi : In a x → T (le x (a .hi))
+  up-to-hi : In a x → T (le x (a .hi))
   up-to-hi h = and-r (le (a .lo) x) (le x (a .hi)) h
 
   pub in-by : T (le (a .lo) x) → T (le x (a .hi)) → In a x
   in-by h k = and-i (le (a .lo) x) (le x (a .hi)) h k
 
   module _ (e : T (bounded a)) where
-    pub lo-finite : T (finite (a .lo))
+    lo-finite : T (finite (a .lo))
     lo-finite = and-l (finite (a .lo)) (finite (a .hi)) e
 
-    pub hi-finite : T (finite (a .hi))
+    hi-finite : T (finite (a .hi))
     hi-finite = and-r (finite (a .lo)) (finite (a .hi)) e
 
     pub in-finite : In a x → T (finite x)

@@ -15,7 +15,6 @@ use Rattle.ladder.proofs.Cases.{pick}
 use Rattle.ladder.proofs.Entries.{All, all-set}
 use Rattle.account.specs.declared.types.Trying.{Trying}
 use Rattle.account.specs.declared.types.Trying.the-variants.{Nothing, Running}
-use Rattle.account.specs.declared.types.Tariff.{Tariff}
 use Rattle.account.specs.declared.types.Prices.{Prices}
 use Rattle.account.specs.declared.types.State.{State}
 use Rattle.account.specs.State.{waitOf, choice, withTime, withWait, withTrying, withPlace, withSnr, withEcho}
@@ -42,18 +41,31 @@ mixed-in : (old new : Float) (a : Range) (y x : Float) → mixes old new a → I
 mixed-in old new a y x e h k =
     sum-in (scaled old a) (scaled new a) a (old ⊗ y) (new ⊗ x) (scaled-in old a (scaled old a) y h (e .0)) (scaled-in new a (scaled new a) x k (e .1)) (e .2)
 
-mix-ends : mixes (f64 0x3fe6_6666_6666_6666) (f64 0x3fd3_3333_3333_3333) decibels × mixes (f64 0x3fe3_3333_3333_3333) (f64 0x3fd9_9999_9999_999a) shares
+-- 0.7 and 0.3, 0.6 and 0.4
+abbrev oldSnr : Float
+oldSnr = f64 0x3fe6_6666_6666_6666
+
+abbrev newSnr : Float
+newSnr = f64 0x3fd3_3333_3333_3333
+
+abbrev oldEcho : Float
+oldEcho = f64 0x3fe3_3333_3333_3333
+
+abbrev newEcho : Float
+newEcho = f64 0x3fd9_9999_9999_999a
+
+mix-ends : mixes oldSnr newSnr decibels × mixes oldEcho newEcho shares
 unfolding ofBits neg add mul le
 mix-ends = ((tt, tt, tt), (tt, tt, tt))
 
 snr-in : (y x : Reading) → T (okSnr y) → T (okSnr x) → T (okSnr (smoothSnr y x))
 snr-in y Missing h k = h
 snr-in Missing (Value x) h k = k
-snr-in (Value y) (Value x) h k = mixed-in (f64 0x3fe6_6666_6666_6666) (f64 0x3fd3_3333_3333_3333) decibels y x (mix-ends .0) h k
+snr-in (Value y) (Value x) h k = mixed-in oldSnr newSnr decibels y x (mix-ends .0) h k
 
 echo-in : (y : Reading) (x : Float) → T (okLimit y) → T (okShare x) → T (okLimit (smoothEcho y x))
 echo-in Missing x h k = k
-echo-in (Value y) x h k = mixed-in (f64 0x3fe3_3333_3333_3333) (f64 0x3fd9_9999_9999_999a) shares y x (mix-ends .1) h k
+echo-in (Value y) x h k = mixed-in oldEcho newEcho shares y x (mix-ends .1) h k
 
 -- ---- one field anew
 set-snr : (s : State) (x : Reading) → Held s → T (okSnr x) → Held (withSnr s x)
@@ -116,7 +128,7 @@ unfolding ofBits ofInt round mul le
 wait-ends = (tt, tt)
 
 module _ (t : Table) (p : Prices) (ts : TableIn t) (ps : TariffIn (p .tariff)) where
-  wait-in : (s : State) (r : ℕ) → Held s → In times (waitSeconds t (p .tariff) s r)
+  pub wait-in : (s : State) (r : ℕ) → Held s → In times (waitSeconds t (p .tariff) s r)
   unfolding waitSeconds fullAir
   wait-in s r h =
       let n = burstOr (p .tariff) r 1 in

@@ -1,23 +1,23 @@
 -- Every value and price is finite and at least 0: an estimate's divisor is at least two frame times, and a price's at least the burst's air. Assumes nothing.
-use mathlib.Core.Path.{_≡_}
-use mathlib.Core.Bool.{Bool, not, _&&_, cond}
+use mathlib.Core.Path.{sym, subst}
+use mathlib.Core.Bool.{Bool, not, _&&_}
 use Prim.Native.Nat.{ℕ, zero, suc, _≤_}
 use native.Mathlib.Omega.{arith}
 use lib.Dec.{T, ltb, eqb, ltb→lt}
-use lib.Ieee.{Float, ofBits, ofInt, round, neg, add, sub, mul, div, le, lt}
+use lib.Ieee.{Float, ofBits, ofInt, round, neg, add, sub, mul, div, le}
 use lib.Ieee.Fits.{and-r}
 use lib.Ieee.Positive.{positive}
-use Rattle.float.specs.Numbers.{_⊕_, _⊖_, _⊗_, _⊘_, ofNat, f0, f½, f2}
+use Rattle.float.specs.Numbers.{_⊕_, _⊖_, _⊗_, ofNat, f0, f½, f2}
 use Rattle.float.proofs.Order.{number}
 use Rattle.float.proofs.Share.{Share}
 use Rattle.half.proofs.Range.{probability-share, from-share}
-use Rattle.limits.specs.Values.{okDb}
 use Rattle.ladder.specs.declared.types.Reading.{Reading}
 use Rattle.ladder.specs.declared.types.Reading.the-variants.{Missing, Value}
 use Rattle.ladder.specs.declared.types.Row.{Row}
 use Rattle.ladder.specs.declared.types.Table.{Table}
 use Rattle.ladder.specs.Types.{row, isFloor, okSnr}
 use Rattle.ladder.proofs.Cases.{pick, pick-by, yes-of}
+use Rattle.ladder.proofs.Entries.{All}
 use Rattle.account.specs.declared.types.Account.{Account}
 use Rattle.account.specs.declared.types.Families.{Families}
 use Rattle.account.specs.declared.types.Tariff.{Tariff}
@@ -26,9 +26,9 @@ use Rattle.account.specs.declared.types.State.{State}
 use Rattle.account.specs.State.{noAccount, account}
 use Rattle.account.specs.Price.{offset, chanceAt, priorOf, estimateOf, estimateAt, lossless, ownFloor, otherFloor, control, burstOr, overheadOf, overhead, pricedOf, priced, value, losslessPrice}
 use Rattle.account.proofs.FullAir.{TariffSound}
-use Rattle.finite.specs.Finite.{mostBytes, mostAir, mostFrames, mostRate, mostValue, Lies, Compared}
+use Rattle.finite.specs.Finite.{mostBytes, mostAir, mostFrames, mostRate, mostValue, Lies, Compared, Alike}
 use Rattle.finite.proofs.Ranges.{Range, _to_, In, bounded, in-by, in-finite, in-number, widen, _⊞_, _⊟_, _⊠_, scaled, holds, sums, differences, products, quotients, scales, sum-in, difference-in, product-in, quotient-in, scaled-in, counts, one-test}
-use Rattle.finite.proofs.Bounds.{decibels, airTimes, capacities, lengths, shares, margins, offsets, RowIn, TableIn, TariffIn, AccountIn, Held, all-any}
+use Rattle.finite.proofs.Bounds.{decibels, airTimes, capacities, lengths, shares, margins, offsets, RowIn, TableIn, TariffIn, AccountIn, OffsetsIn, Held, all-any}
 
 -- ---- a probability
 pub share-in : (p : Float) → Share p → In shares p
@@ -141,16 +141,16 @@ value-lies x k = (in-finite values x (compared-ends .1) k, k)
 value-number : (x : Float) → In values x → T (number x)
 value-number x k = in-number values x (compared-ends .1) k
 
-module _ (t : Table) (p : Prices) (s : State) (ts : TableIn t) (ps : TariffIn (p .tariff)) (h : Held s) where
+module _ (t : Table) (p : Prices) (s : State) (ts : TableIn t) (ps : TariffIn (p .tariff)) (ha : All AccountIn (s .accounts)) (ho : OffsetsIn (s .offsets)) (hs : T (okSnr (s .snr))) where
   account-in : (r : ℕ) → AccountIn (account s r)
-  account-in r = all-any AccountIn (s .accounts) r noAccount (h .accounts) no-account-in
+  account-in r = all-any AccountIn (s .accounts) r noAccount ha no-account-in
 
   estimate-at-in : (r : ℕ) (snr : Reading) → T (okSnr snr) → In rates (estimateAt t s r snr)
   unfolding estimateAt
   estimate-at-in r snr k =
       let off = offset t s r in
       estimate-in (account s r) (priorOf (row t r) (t .margin) off snr) (row t r .time) (account-in r)
-      (prior-in (row t r) (t .margin) off snr (ts .rows r) (ts .margin) (pick (In offsets) (isFloor t r) (h .offsets .floor) (h .offsets .ofdm)) k) (ts .rows r .time)
+      (prior-in (row t r) (t .margin) off snr (ts .rows r) (ts .margin) (pick (In offsets) (isFloor t r) (ho .floor) (ho .ofdm)) k) (ts .rows r .time)
 
   lossless-in : (r : ℕ) → In rates (lossless t r)
   unfolding lossless
@@ -164,15 +164,15 @@ module _ (t : Table) (p : Prices) (s : State) (ts : TableIn t) (ps : TariffIn (p
 
   value-in : (r : ℕ) → In values (value t p s r)
   unfolding value
-  value-in r = price-in r (estimateAt t s r (s .snr)) (estimate-at-in r (s .snr) (h .snr))
+  value-in r = price-in r (estimateAt t s r (s .snr)) (estimate-at-in r (s .snr) hs)
 
   lossless-price-in : (r : ℕ) → In values (losslessPrice t p r)
   unfolding losslessPrice
   lossless-price-in r = price-in r (lossless t r) (lossless-in r)
 
-  pub compared : Compared t p s
-  compared = record {
-    estimates = λ r. rate-lies (estimateAt t s r (s .snr)) (estimate-at-in r (s .snr) (h .snr));
+  rung-compared : Compared t p s
+  rung-compared = record {
+    estimates = λ r. rate-lies (estimateAt t s r (s .snr)) (estimate-at-in r (s .snr) hs);
     values = λ r. value-lies (value t p s r) (value-in r);
     lossless-rates = λ r. rate-lies (lossless t r) (lossless-in r);
     lossless-prices = λ r. value-lies (losslessPrice t p r) (lossless-price-in r);
@@ -181,3 +181,7 @@ module _ (t : Table) (p : Prices) (s : State) (ts : TableIn t) (ps : TariffIn (p
     price-over-value = λ r q. one-test (losslessPrice t p r) (value t p s q) (value-number (losslessPrice t p r) (lossless-price-in r)) (value-number (value t p s q) (value-in q));
     frames-over-two = λ r. one-test (account s r .frames) f2 (in-number (f0 to mostFrames) (account s r .frames) (compared-ends .2) (account-in r .frames)) (in-number (f2 to f2) f2 (compared-ends .3) (compared-ends .4));
   }
+
+pub compared : (t : Table) (p : Prices) (s : State) → TableIn t → TariffIn (p .tariff) → Held s → (z : State) → Alike s z → Compared t p z
+compared t p s ts ps h z a =
+    rung-compared t p z ts ps (subst (All AccountIn) (sym (a .accounts)) (h .accounts)) (subst OffsetsIn (sym (a .offsets)) (h .offsets)) (subst (λ (x : Reading). T (okSnr x)) (sym (a .snr)) (h .snr))

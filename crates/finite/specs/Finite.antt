@@ -20,7 +20,7 @@ use Rattle.account.specs.declared.types.Tariff.{Tariff}
 use Rattle.account.specs.declared.types.Prices.{Prices}
 use Rattle.account.specs.declared.types.State.{State}
 use Rattle.account.specs.State.{account, timeOf, waitOf}
-use Rattle.account.specs.Price.{burstOr, estimate, estimateAt, lossless, priced, value, losslessPrice}
+use Rattle.account.specs.Price.{burstOr, estimate, estimateAt, lossless, priced, value, losslessPrice, waitSeconds}
 use Rattle.steps.specs.declared.types.Frame.{Frame}
 use Rattle.steps.specs.Echo.{observeSnr}
 use Rattle.steps.specs.Booking.{f5, f20, booked}
@@ -108,17 +108,30 @@ pub record Compared (t : Table) (p : Prices) (s : State) : Type 0 where
   pub price-over-value : (r q : ℕ) → OneTest (losslessPrice t p r) (value t p s q)
   pub frames-over-two : (r : ℕ) → OneTest (account s r .frames) f2
 
+-- A state with the accounts, offsets and SNR of s, which are all that a value is read from: within a call the place, the try, the echo, times, waits and marks
+-- may have moved before values are compared
+pub record Alike (s z : State) : Type 0 where
+  pub accounts : z .accounts ≡ s .accounts
+  pub offsets : z .offsets ≡ s .offsets
+  pub snr : z .snr ≡ s .snr
+
 -- ---- the claim
+-- of one state: its numbers, its waits in seconds, and all that is compared
+pub record FiniteAt (t : Table) (p : Prices) (s : State) : Type 0 where
+  pub state : StateLies s
+  pub seconds : (r : ℕ) → Lies f0 longest (waitSeconds t (p .tariff) s r)
+  pub compared : (z : State) → Alike s z → Compared t p z
+
 pub record Finite (k : RateController) : Type 0 where
   pub table : TableLies (k .table)
   pub tariff : TariffLies (k .prices .tariff)
-  pub state : StateLies (k .state)
-  pub compared : Compared (k .table) (k .prices) (k .state)
-  -- inside a call with frames that is accepted: where the first n rungs are judged, and where `decide` is asked
+  -- between the calls
+  pub state : FiniteAt (k .table) (k .prices) (k .state)
+  -- and inside an accepted call with frames: once its first n rungs are judged, and where `decide` is asked
   pub judging : (fs : List Frame) (snr : Reading) (n : ℕ) → verdict (k .table) (Frames fs snr) ≡ Accepted
-      → let s = judgeAbove n 0 (k .table) (k .prices) fs (booked (k .table) (observeSnr (k .state) snr) fs) in StateLies s × Compared (k .table) (k .prices) s
+      → FiniteAt (k .table) (k .prices) (judgeAbove n 0 (k .table) (k .prices) fs (booked (k .table) (observeSnr (k .state) snr) fs))
   pub deciding : (fs : List Frame) (snr : Reading) → verdict (k .table) (Frames fs snr) ≡ Accepted
-      → let s = inside (k .table) (k .prices) (k .state) fs snr in StateLies s × Compared (k .table) (k .prices) s
+      → FiniteAt (k .table) (k .prices) (inside (k .table) (k .prices) (k .state) fs snr)
 
 -- of every controller that a list of calls leaves of a fresh one, refused calls included
 abbrev pub AlwaysFinite : Type 0
