@@ -34,16 +34,23 @@ use Rattle.finite.proofs.Bounds.{decibels, airTimes, capacities, length
 pub share-in : (p : Float) → Share p → In shares p
 share-in p h = let g = from-share p h in in-by shares p (g .0) (g .1)
 
-chance-ends : T (differences decibels offsets (decibels ⊟ offsets)) × T (differences (decibels ⊟ offsets) margins (decibels ⊟ offsets ⊟ margins)) × T (bounded (decibels ⊟ offsets ⊟ margins)) × T (bounded decibels) × T (positive f½)
+-- the SNR less the offset, and less the margin
+abbrev lessOffset : Range
+lessOffset = decibels ⊟ offsets
+
+abbrev lessMargin : Range
+lessMargin = lessOffset ⊟ margins
+
+chance-ends : T (differences decibels offsets lessOffset) × T (differences lessOffset margins lessMargin) × T (bounded lessMargin) × T (bounded decibels) × T (positive f½)
 unfolding ofBits neg sub le
 chance-ends = (tt, tt, tt, tt, tt)
 
 pub chance-in : (threshold margin off snr : Float) → In decibels threshold → In margins margin → In offsets off → In decibels snr → In shares (chanceAt threshold margin off snr)
 chance-in threshold margin off snr ht hm ho hs =
     let x = snr ⊖ off in
-    let y = difference-in (decibels ⊟ offsets) margins (decibels ⊟ offsets ⊟ margins) x margin (difference-in decibels offsets (decibels ⊟ offsets) snr off hs ho (chance-ends .0)) hm (chance-ends .1) in
+    let y = difference-in lessOffset margins lessMargin x margin (difference-in decibels offsets lessOffset snr off hs ho (chance-ends .0)) hm (chance-ends .1) in
     share-in (chanceAt threshold margin off snr)
-    (probability-share (x ⊖ margin) threshold f½ (in-number (decibels ⊟ offsets ⊟ margins) (x ⊖ margin) (chance-ends .2) y) (in-finite decibels threshold (chance-ends .3) ht) (chance-ends .4))
+    (probability-share (x ⊖ margin) threshold f½ (in-number lessMargin (x ⊖ margin) (chance-ends .2) y) (in-finite decibels threshold (chance-ends .3) ht) (chance-ends .4))
 
 -- ---- the prior
 abbrev priors : Range
@@ -63,21 +70,28 @@ prior-in a margin off (Value snr) h hm ho hs =
 abbrev rates : Range
 rates = f0 to mostRate
 
+-- twice a prior and a frame time, and with an account's bytes and air
+abbrev twicePrior : Range
+twicePrior = scaled f2 priors
+
+abbrev twiceTime : Range
+twiceTime = scaled f2 airTimes
+
 abbrev delivered : Range
-delivered = (f0 to mostBytes) ⊞ scaled f2 priors
+delivered = (f0 to mostBytes) ⊞ twicePrior
 
 abbrev spent : Range
-spent = (f0 to mostAir) ⊞ scaled f2 airTimes
+spent = (f0 to mostAir) ⊞ twiceTime
 
-estimate-ends : T (scales f2 priors (scaled f2 priors)) × T (sums (f0 to mostBytes) (scaled f2 priors) delivered) × T (scales f2 airTimes (scaled f2 airTimes)) × T (sums (f0 to mostAir) (scaled f2 airTimes) spent) × T (quotients delivered spent rates)
+estimate-ends : T (scales f2 priors twicePrior) × T (sums (f0 to mostBytes) twicePrior delivered) × T (scales f2 airTimes twiceTime) × T (sums (f0 to mostAir) twiceTime spent) × T (quotients delivered spent rates)
 unfolding ofBits ofInt round add mul div le
 estimate-ends = (tt, tt, tt, tt, tt)
 
 estimate-in : (a : Account) (prior time : Float) → AccountIn a → In priors prior → In airTimes time → In rates (estimateOf a prior time)
 estimate-in a prior time h hp ht =
     quotient-in delivered spent rates (a .bytes ⊕ f2 ⊗ prior) (a .air ⊕ f2 ⊗ time)
-    (sum-in (f0 to mostBytes) (scaled f2 priors) delivered (a .bytes) (f2 ⊗ prior) (h .bytes) (scaled-in f2 priors (scaled f2 priors) prior hp (estimate-ends .0)) (estimate-ends .1))
-    (sum-in (f0 to mostAir) (scaled f2 airTimes) spent (a .air) (f2 ⊗ time) (h .air) (scaled-in f2 airTimes (scaled f2 airTimes) time ht (estimate-ends .2)) (estimate-ends .3))
+    (sum-in (f0 to mostBytes) twicePrior delivered (a .bytes) (f2 ⊗ prior) (h .bytes) (scaled-in f2 priors twicePrior prior hp (estimate-ends .0)) (estimate-ends .1))
+    (sum-in (f0 to mostAir) twiceTime spent (a .air) (f2 ⊗ time) (h .air) (scaled-in f2 airTimes twiceTime time ht (estimate-ends .2)) (estimate-ends .3))
     (estimate-ends .4)
 
 lossless-ends : T (quotients capacities airTimes rates)
@@ -94,17 +108,25 @@ overheads = lengths ⊞ lengths ⊞ lengths
 abbrev bursts : Range
 bursts = (ofNat 1 to ofNat 1000) ⊠ airTimes
 
-price-ends : T (sums lengths lengths (lengths ⊞ lengths)) × T (sums (lengths ⊞ lengths) lengths overheads) × T (products (ofNat 1 to ofNat 1000) airTimes bursts) × T (products rates bursts (rates ⊠ bursts)) × T (sums bursts overheads (bursts ⊞ overheads)) × T (quotients (rates ⊠ bursts) (bursts ⊞ overheads) values) × T (holds values rates)
+overhead-ends : T (sums lengths lengths (lengths ⊞ lengths)) × T (sums (lengths ⊞ lengths) lengths overheads)
+unfolding ofBits add le
+overhead-ends = (tt, tt)
+
+burst-ends : T (products (ofNat 1 to ofNat 1000) airTimes bursts) × T (products rates bursts (rates ⊠ bursts)) × T (sums bursts overheads (bursts ⊞ overheads))
+unfolding ofBits ofInt round add mul le
+burst-ends = (tt, tt, tt)
+
+price-ends : T (quotients (rates ⊠ bursts) (bursts ⊞ overheads) values) × T (holds values rates)
 unfolding ofBits ofInt round add mul div le
-price-ends = (tt, tt, tt, tt, tt, tt, tt)
+price-ends = (tt, tt)
 
 overhead-in : (p : Tariff) (families : Families) (floor : Bool) → TariffIn p → In overheads (overheadOf p families floor)
 overhead-in p families floor h =
     let own = control p (ownFloor families floor) in
     let other = control p (otherFloor families floor) in
     sum-in (lengths ⊞ lengths) lengths overheads (own ⊕ other) (p .gap)
-    (sum-in lengths lengths (lengths ⊞ lengths) own other (pick (In lengths) (ownFloor families floor) (h .floor) (h .ordinary)) (pick (In lengths) (otherFloor families floor) (h .floor) (h .ordinary)) (price-ends .0))
-    (h .gap) (price-ends .1)
+    (sum-in lengths lengths (lengths ⊞ lengths) own other (pick (In lengths) (ownFloor families floor) (h .floor) (h .ordinary)) (pick (In lengths) (otherFloor families floor) (h .floor) (h .ordinary)) (overhead-ends .0))
+    (h .gap) (overhead-ends .1)
 
 at-least-one : (n : ℕ) → T (not (eqb n 0)) → 1 ≤ n
 at-least-one zero h = absurd h
@@ -115,10 +137,10 @@ priced-in given n time over x hn ht ho hx =
     let a = ofNat n ⊗ time in
     pick-by (In values) (given && not (eqb n 0))
     (λ e.
-    let b = product-in (ofNat 1 to ofNat 1000) airTimes bursts (ofNat n) time (counts 1 n 1000 (at-least-one n (and-r given (not (eqb n 0)) (yes-of e))) hn) ht (price-ends .2) in
+    let b = product-in (ofNat 1 to ofNat 1000) airTimes bursts (ofNat n) time (counts 1 n 1000 (at-least-one n (and-r given (not (eqb n 0)) (yes-of e))) hn) ht (burst-ends .0) in
     quotient-in (rates ⊠ bursts) (bursts ⊞ overheads) values (x ⊗ a) (a ⊕ over)
-    (product-in rates bursts (rates ⊠ bursts) x a hx b (price-ends .3)) (sum-in bursts overheads (bursts ⊞ overheads) a over b ho (price-ends .4)) (price-ends .5))
-    (λ e. widen rates values x (price-ends .6) hx)
+    (product-in rates bursts (rates ⊠ bursts) x a hx b (burst-ends .1)) (sum-in bursts overheads (bursts ⊞ overheads) a over b ho (burst-ends .2)) (price-ends .0))
+    (λ e. widen rates values x (price-ends .1) hx)
 
 pub burst-small : (p : Tariff) → TariffSound p → (r d : ℕ) → d ≤ 1000 → burstOr p r d ≤ 1000
 burst-small p h r d k = pick-by (λ (n : ℕ). n ≤ 1000) (ltb r (p .counted)) (λ e. h r (ltb→lt r (p .counted) (yes-of e))) (λ e. k)

@@ -51,11 +51,11 @@ mostAir = f64 0x4090_b800_0000_0000
 abbrev pub mostFrames : Float
 mostFrames = f64 0x4032_0000_0000_0000
 
--- 2^120: a time since a try that is so long grows no further, as what is added is lost in rounding
+-- 2^120: so long a time since a try grows no further, as what is added is lost in rounding
 abbrev pub longest : Float
 longest = f64 0x4770_0000_0000_0000
 
--- 2^26, above what 73,000 bytes and the prior come to over the shortest air; and 2^52, above that after the price's product and quotient
+-- 2^26: above 73,000 bytes and the prior over the shortest air. 2^52: above that times the longest burst, over the shortest
 abbrev pub mostRate : Float
 mostRate = f64 0x4190_0000_0000_0000
 
@@ -92,7 +92,8 @@ pub record StateLies (s : State) : Type 0 where
   pub ofdm-offset : Lies (neg f5) f20 (s .offsets .ofdm)
 
 -- ---- what is compared
--- "x > y" and "not x <= y" are one test: a NaN would part them
+-- "x > y" and "not x <= y" are one test: a NaN would part them. Document 01 has the first; the Rust asks `<=` of a lossless price against a value, and of
+-- an account's frames against the prior's weight, and goes no further where it holds
 abbrev pub OneTest : Float → Float → Type 0
 OneTest x y = lt y x ≡ not (le x y)
 
