@@ -35,9 +35,8 @@ use Rattle.steps.specs.declared.types.Frame.{Frame}
 use Rattle.steps.specs.Booking.{at, f5, f20, clamp, moved, offsetStep, offsetsFrom, offsetsAt, offsetsAfter, f12, aged, gained, bookOne, bookFrame, book, airs, callAir, passed, booked}
 use Rattle.steps.specs.Check.{frameVerdict, firstBad}
 use Rattle.steps.proofs.Fade.{own-fade}
-use Rattle.finite.specs.Finite.{mostBytes, mostAir, mostFrames}
 use Rattle.finite.proofs.Ranges.{Range, _to_, In, bounded, first, second, third, in-by, in-number, in-natural, widen, holds, _⊞_, _⊠_, _÷_, scaled, sums, differences, products, quotients, scales, sum-in, difference-in, product-in, quotient-in, scaled-in, counts}
-use Rattle.finite.proofs.Bounds.{decibels, airTimes, capacities, shares, offsets, surprises, times, TableIn, AccountIn, OffsetsIn, Held, all-any}
+use Rattle.finite.proofs.Bounds.{decibels, airTimes, accountBytes, accountAir, accountFrames, capacities, shares, offsets, surprises, times, TableIn, AccountIn, OffsetsIn, Held, all-any}
 use Rattle.finite.proofs.Values.{share-in, chance-in, no-account-in}
 
 -- ---- frames that are accepted
@@ -54,7 +53,7 @@ frames-in t (f ∷ fs) e =
     (record { air = and-l (okAir (f .air)) (okBytes (f .capacity)) b; capacity = leb→le (f .capacity) 4096 (and-r (okAir (f .air)) (okBytes (f .capacity)) b) }, frames-in t fs (a .1))
 
 -- ---- ageing
--- a frame's own rung ages by one factor
+-- a frame's own rung ages by half(1/12), 0.9438743126816935
 abbrev ownFade : Float
 ownFade = f64 0x3fee_3437_e710_1344
 
@@ -82,24 +81,24 @@ module _ (a g : Range) (e : T (lasts a g)) (x : Float) (h : In a x) where
       (product-in a own (a ⊠ own) x (half (f1 ⊘ f12)) h own-in (second (products a shares a) (products a own (a ⊠ own)) (sums (a ⊠ own) g a) e)) k
       (third (products a shares a) (products a own (a ⊠ own)) (sums (a ⊠ own) g a) e)
 
-account-ends : T (lasts (f0 to mostBytes) capacities) × T (lasts (f0 to mostAir) airTimes) × T (lasts (f0 to mostFrames) (f1 to f1)) × In (f1 to f1) f1
+account-ends : T (lasts accountBytes capacities) × T (lasts accountAir airTimes) × T (lasts accountFrames (f1 to f1)) × In (f1 to f1) f1
 unfolding ofBits ofInt round add mul le
 account-ends = (tt, tt, tt, tt)
 
 account-aged : (d : Float) (a : Account) → In shares d → AccountIn a → AccountIn (aged d a)
 account-aged d a k h = record {
-  bytes = aged-in (f0 to mostBytes) capacities (account-ends .0) (a .bytes) (h .bytes) d k;
-  air = aged-in (f0 to mostAir) airTimes (account-ends .1) (a .air) (h .air) d k;
-  frames = aged-in (f0 to mostFrames) (f1 to f1) (account-ends .2) (a .frames) (h .frames) d k;
+  bytes = aged-in accountBytes capacities (account-ends .0) (a .bytes) (h .bytes) d k;
+  air = aged-in accountAir airTimes (account-ends .1) (a .air) (h .air) d k;
+  frames = aged-in accountFrames (f1 to f1) (account-ends .2) (a .frames) (h .frames) d k;
 }
 
 account-gained : (f : Frame) (a : Account) → FrameIn f → AccountIn a → AccountIn (gained f (aged (half (f1 ⊘ f12)) a))
 account-gained f a k h = record {
-  bytes = pick (In (f0 to mostBytes)) (f .decoded)
-      (refilled-in (f0 to mostBytes) capacities (account-ends .0) (a .bytes) (h .bytes) (ofNat (f .capacity)) (counts 0 (f .capacity) 4096 (omega arith) (k .capacity)))
-      (aged-in (f0 to mostBytes) capacities (account-ends .0) (a .bytes) (h .bytes) (half (f1 ⊘ f12)) (widen own shares (half (f1 ⊘ f12)) (own-ends .1) own-in));
-  air = refilled-in (f0 to mostAir) airTimes (account-ends .1) (a .air) (h .air) (f .air) (k .air);
-  frames = refilled-in (f0 to mostFrames) (f1 to f1) (account-ends .2) (a .frames) (h .frames) f1 (account-ends .3);
+  bytes = pick (In accountBytes) (f .decoded)
+      (refilled-in accountBytes capacities (account-ends .0) (a .bytes) (h .bytes) (ofNat (f .capacity)) (counts 0 (f .capacity) 4096 (omega arith) (k .capacity)))
+      (aged-in accountBytes capacities (account-ends .0) (a .bytes) (h .bytes) (half (f1 ⊘ f12)) (widen own shares (half (f1 ⊘ f12)) (own-ends .1) own-in));
+  air = refilled-in accountAir airTimes (account-ends .1) (a .air) (h .air) (f .air) (k .air);
+  frames = refilled-in accountFrames (f1 to f1) (account-ends .2) (a .frames) (h .frames) f1 (account-ends .3);
 }
 
 -- the others age by a half-power, which is a share

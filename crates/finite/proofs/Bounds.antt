@@ -30,7 +30,7 @@ use Rattle.steps.specs.Booking.{f5, f20}
 use Rattle.finite.specs.Finite.{mostBytes, mostAir, mostFrames, longest}
 use Rattle.finite.proofs.Ranges.{Range, _to_, In, scales}
 
--- ---- the ranges. `In` of the first three is `okDb`, `okAir`, `okLength`, and of the fourth `okShare`
+-- ---- the ranges. `In` of `decibels`, `airTimes`, `lengths` and `shares` is `okDb`, `okAir`, `okLength` and `okShare`
 abbrev pub decibels : Range
 decibels = neg f200 to f200
 
@@ -39,6 +39,15 @@ airTimes = milli to f60
 
 abbrev pub capacities : Range
 capacities = ofNat 0 to ofNat 4096
+
+abbrev pub accountBytes : Range
+accountBytes = f0 to mostBytes
+
+abbrev pub accountAir : Range
+accountAir = f0 to mostAir
+
+abbrev pub accountFrames : Range
+accountFrames = f0 to mostFrames
 
 abbrev pub lengths : Range
 lengths = f0 to f60
@@ -79,9 +88,9 @@ pub record TariffIn (p : Tariff) : Type 0 where
   pub bursts : TariffSound p
 
 pub record AccountIn (a : Account) : Type 0 where
-  pub bytes : In (f0 to mostBytes) (a .bytes)
-  pub air : In (f0 to mostAir) (a .air)
-  pub frames : In (f0 to mostFrames) (a .frames)
+  pub bytes : In accountBytes (a .bytes)
+  pub air : In accountAir (a .air)
+  pub frames : In accountFrames (a .frames)
 
 pub record OffsetsIn (o : Offsets) : Type 0 where
   pub floor : In offsets (o .floor)

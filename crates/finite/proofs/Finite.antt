@@ -35,9 +35,9 @@ use Rattle.rate.specs.Calls.{Call, Frames, Echo, Silence, Snr, Seed, Price, Fam
 use Rattle.rate.proofs.Stepping.{by-verdict}
 use Rattle.waiting.specs.Waiting.{Fresh, fresh}
 use Rattle.waiting.proofs.Sound.{Sound, step-sound, fresh-sound}
-use Rattle.finite.specs.Finite.{Lies, LiesIn, mostBytes, mostAir, mostFrames, TableLies, TariffLies, AccountLies, StateLies, FiniteAt, Finite, AlwaysFinite}
-use Rattle.finite.proofs.Ranges.{Range, _to_, In, bounded, in-finite}
-use Rattle.finite.proofs.Bounds.{decibels, airTimes, lengths, shares, margins, offsets, times, TableIn, TariffIn, AccountIn, Held, all-any, made-in}
+use Rattle.finite.specs.Finite.{Lies, LiesIn, TableLies, TariffLies, AccountLies, StateLies, FiniteAt, Finite, AlwaysFinite}
+use Rattle.finite.proofs.Ranges.{Range, In, bounded, in-finite}
+use Rattle.finite.proofs.Bounds.{decibels, airTimes, accountBytes, accountAir, accountFrames, lengths, shares, margins, offsets, times, TableIn, TariffIn, AccountIn, Held, all-any, made-in}
 use Rattle.finite.proofs.Values.{burst-small, no-account-in, compared}
 use Rattle.finite.proofs.Booking.{FrameIn, frames-in, zero-time}
 use Rattle.finite.proofs.Steps.{wait-in, snr-held, echo-held, seed-held, judging-held, inside-held, frames-held}
@@ -115,7 +115,7 @@ ends : T (bounded decibels) × T (bounded airTimes) × T (bounded lengths) × T 
 unfolding ofBits neg
 ends = (tt, tt, tt, tt, tt, tt, tt)
 
-account-ends : T (bounded (f0 to mostBytes)) × T (bounded (f0 to mostAir)) × T (bounded (f0 to mostFrames))
+account-ends : T (bounded accountBytes) × T (bounded accountAir) × T (bounded accountFrames)
 unfolding ofBits
 account-ends = (tt, tt, tt)
 
@@ -150,9 +150,9 @@ tariff-lies p h = record {
 
 account-lies : (a : Account) → AccountIn a → AccountLies a
 account-lies a h = record {
-  bytes = lies (f0 to mostBytes) (a .bytes) (account-ends .0) (h .bytes);
-  air = lies (f0 to mostAir) (a .air) (account-ends .1) (h .air);
-  frames = lies (f0 to mostFrames) (a .frames) (account-ends .2) (h .frames);
+  bytes = lies accountBytes (a .bytes) (account-ends .0) (h .bytes);
+  air = lies accountAir (a .air) (account-ends .1) (h .air);
+  frames = lies accountFrames (a .frames) (account-ends .2) (h .frames);
 }
 
 state-lies : (s : State) → Held s → StateLies s

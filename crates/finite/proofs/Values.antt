@@ -26,9 +26,9 @@ use Rattle.account.specs.declared.types.State.{State}
 use Rattle.account.specs.State.{noAccount, account}
 use Rattle.account.specs.Price.{offset, chanceAt, priorOf, estimateOf, estimateAt, lossless, ownFloor, otherFloor, control, burstOr, overheadOf, overhead, pricedOf, priced, value, losslessPrice}
 use Rattle.account.proofs.FullAir.{TariffSound}
-use Rattle.finite.specs.Finite.{mostBytes, mostAir, mostFrames, mostRate, mostValue, Lies, Compared, Alike}
+use Rattle.finite.specs.Finite.{mostRate, mostValue, Lies, Compared, Alike}
 use Rattle.finite.proofs.Ranges.{Range, _to_, In, bounded, in-by, in-finite, in-number, widen, _⊞_, _⊟_, _⊠_, scaled, holds, sums, differences, products, quotients, scales, sum-in, difference-in, product-in, quotient-in, scaled-in, counts, one-test}
-use Rattle.finite.proofs.Bounds.{decibels, airTimes, capacities, lengths, shares, margins, offsets, RowIn, TableIn, TariffIn, AccountIn, OffsetsIn, Held, all-any}
+use Rattle.finite.proofs.Bounds.{decibels, airTimes, accountBytes, accountAir, accountFrames, capacities, lengths, shares, margins, offsets, RowIn, TableIn, TariffIn, AccountIn, OffsetsIn, Held, all-any}
 
 -- ---- a probability
 pub share-in : (p : Float) → Share p → In shares p
@@ -78,20 +78,20 @@ abbrev twiceTime : Range
 twiceTime = scaled f2 airTimes
 
 abbrev delivered : Range
-delivered = (f0 to mostBytes) ⊞ twicePrior
+delivered = accountBytes ⊞ twicePrior
 
 abbrev spent : Range
-spent = (f0 to mostAir) ⊞ twiceTime
+spent = accountAir ⊞ twiceTime
 
-estimate-ends : T (scales f2 priors twicePrior) × T (sums (f0 to mostBytes) twicePrior delivered) × T (scales f2 airTimes twiceTime) × T (sums (f0 to mostAir) twiceTime spent) × T (quotients delivered spent rates)
+estimate-ends : T (scales f2 priors twicePrior) × T (sums accountBytes twicePrior delivered) × T (scales f2 airTimes twiceTime) × T (sums accountAir twiceTime spent) × T (quotients delivered spent rates)
 unfolding ofBits ofInt round add mul div le
 estimate-ends = (tt, tt, tt, tt, tt)
 
 estimate-in : (a : Account) (prior time : Float) → AccountIn a → In priors prior → In airTimes time → In rates (estimateOf a prior time)
 estimate-in a prior time h hp ht =
     quotient-in delivered spent rates (a .bytes ⊕ f2 ⊗ prior) (a .air ⊕ f2 ⊗ time)
-    (sum-in (f0 to mostBytes) twicePrior delivered (a .bytes) (f2 ⊗ prior) (h .bytes) (scaled-in f2 priors twicePrior prior hp (estimate-ends .0)) (estimate-ends .1))
-    (sum-in (f0 to mostAir) twiceTime spent (a .air) (f2 ⊗ time) (h .air) (scaled-in f2 airTimes twiceTime time ht (estimate-ends .2)) (estimate-ends .3))
+    (sum-in accountBytes twicePrior delivered (a .bytes) (f2 ⊗ prior) (h .bytes) (scaled-in f2 priors twicePrior prior hp (estimate-ends .0)) (estimate-ends .1))
+    (sum-in accountAir twiceTime spent (a .air) (f2 ⊗ time) (h .air) (scaled-in f2 airTimes twiceTime time ht (estimate-ends .2)) (estimate-ends .3))
     (estimate-ends .4)
 
 lossless-ends : T (quotients capacities airTimes rates)
@@ -150,7 +150,7 @@ pub no-account-in : AccountIn noAccount
 unfolding ofBits le
 no-account-in = record { bytes = tt; air = tt; frames = tt }
 
-compared-ends : T (bounded rates) × T (bounded values) × T (bounded (f0 to mostFrames)) × T (bounded (f2 to f2)) × In (f2 to f2) f2
+compared-ends : T (bounded rates) × T (bounded values) × T (bounded accountFrames) × T (bounded (f2 to f2)) × In (f2 to f2) f2
 unfolding ofBits le
 compared-ends = (tt, tt, tt, tt, tt)
 
@@ -201,7 +201,7 @@ module _ (t : Table) (p : Prices) (s : State) (ts : TableIn t) (ps : TariffIn (p
     first-values = λ snr k r. value-lies (priced t p r (estimateAt t s r (Value snr))) (price-in r (estimateAt t s r (Value snr)) (estimate-at-in r (Value snr) k));
     value-over-value = λ r q. one-test (value t p s r) (value t p s q) (value-number (value t p s r) (value-in r)) (value-number (value t p s q) (value-in q));
     price-over-value = λ r q. one-test (losslessPrice t p r) (value t p s q) (value-number (losslessPrice t p r) (lossless-price-in r)) (value-number (value t p s q) (value-in q));
-    frames-over-two = λ r. one-test (account s r .frames) f2 (in-number (f0 to mostFrames) (account s r .frames) (compared-ends .2) (account-in r .frames)) (in-number (f2 to f2) f2 (compared-ends .3) (compared-ends .4));
+    frames-over-two = λ r. one-test (account s r .frames) f2 (in-number accountFrames (account s r .frames) (compared-ends .2) (account-in r .frames)) (in-number (f2 to f2) f2 (compared-ends .3) (compared-ends .4));
   }
 
 pub compared : (t : Table) (p : Prices) (s : State) → TableIn t → TariffIn (p .tariff) → Held s → (z : State) → Alike s z → Compared t p z
