@@ -58,14 +58,14 @@ div-anti x y y' fx nx q q' h =
 not-both : (x y : Float) → T (lt y x) → T (le x y) → ⊥
 not-both x y h k = elim (lt→LT y y (lt-le-lt y x y h k)) [ inl u ↦ lt-irrefl _ u | inr u ↦ lt-irrefl _ (u .1) ]
 
+pub opposite : (a b : Bool) → (T a → T b → ⊥) → (T (not a) → T b) → a ≡ not b
+opposite true true h k = absurd (h tt tt)
+opposite true false h k = refl
+opposite false true h k = refl
+opposite false false h k = absurd (k tt)
+
 pub one-test : (x y : Float) → T (number x) → T (number y) → lt y x ≡ not (le x y)
-one-test x y p q = go (lt y x) (le x y) (not-both x y) (not-lt y x q p)
-  where
-    go : (a b : Bool) → (T a → T b → ⊥) → (T (not a) → T b) → a ≡ not b
-    go true true h k = absurd (h tt tt)
-    go true false h k = refl
-    go false true h k = refl
-    go false false h k = absurd (k tt)
+one-test x y p q = opposite (lt y x) (le x y) (not-both x y) (not-lt y x q p)
 
 -- ---- ranges
 pub record Range : Type 0 where

@@ -1,10 +1,10 @@
 -- Every value and price is finite and at least 0: an estimate's divisor is at least two frame times, and a price's at least the burst's air. Assumes nothing.
-use mathlib.Core.Path.{sym, subst}
-use mathlib.Core.Bool.{Bool, not, _&&_}
+use mathlib.Core.Path.{_≡_, refl, sym, ap, subst}
+use mathlib.Core.Bool.{Bool, true, false, not, _&&_, _||_}
 use Prim.Native.Nat.{ℕ, zero, suc, _≤_}
 use native.Mathlib.Omega.{arith}
-use lib.Dec.{T, ltb, eqb, ltb→lt}
-use lib.Ieee.{Float, ofBits, ofInt, round, neg, add, sub, mul, div, le}
+use lib.Dec.{T, leb, ltb, eqb, leb→le, ltb→lt, lt→ltb, nleb→lt}
+use lib.Ieee.{Float, ofBits, ofInt, round, neg, add, sub, mul, div, le, lt}
 use lib.Ieee.Fits.{and-r}
 use lib.Ieee.Positive.{positive}
 use Rattle.float.specs.Numbers.{_⊕_, _⊖_, _⊗_, ofNat, f0, f½, f2}
@@ -15,7 +15,7 @@ use Rattle.ladder.specs.declared.types.Reading.{Reading}
 use Rattle.ladder.specs.declared.types.Reading.the-variants.{Missing, Value}
 use Rattle.ladder.specs.declared.types.Row.{Row}
 use Rattle.ladder.specs.declared.types.Table.{Table}
-use Rattle.ladder.specs.Types.{row, isFloor, okSnr}
+use Rattle.ladder.specs.Types.{row, rungAt, isFloor, okSnr}
 use Rattle.ladder.proofs.Cases.{pick, pick-by, yes-of}
 use Rattle.ladder.proofs.Entries.{All}
 use Rattle.account.specs.declared.types.Account.{Account}
@@ -23,11 +23,13 @@ use Rattle.account.specs.declared.types.Families.{Families}
 use Rattle.account.specs.declared.types.Tariff.{Tariff}
 use Rattle.account.specs.declared.types.Prices.{Prices}
 use Rattle.account.specs.declared.types.State.{State}
-use Rattle.account.specs.State.{noAccount, account}
+use Rattle.account.specs.State.{noAccount, account, choice}
 use Rattle.account.specs.Price.{offset, chanceAt, priorOf, estimateOf, estimateAt, lossless, ownFloor, otherFloor, control, burstOr, overheadOf, overhead, pricedOf, priced, value, losslessPrice}
 use Rattle.account.proofs.FullAir.{TariffSound}
-use Rattle.finite.specs.Finite.{mostRate, mostValue, Lies, Compared, Alike}
-use Rattle.finite.proofs.Ranges.{Range, _to_, In, bounded, in-by, in-finite, in-number, widen, _⊞_, _⊟_, _⊠_, scaled, holds, sums, differences, products, quotients, scales, sum-in, difference-in, product-in, quotient-in, scaled-in, counts, one-test}
+use Rattle.steps.specs.Echo.{usable}
+use Rattle.steps.specs.Tries.{due, cleanClimb, above}
+use Rattle.finite.specs.Finite.{OneTest, mostRate, mostValue, Lies, Compared, Alike}
+use Rattle.finite.proofs.Ranges.{Range, _to_, In, bounded, in-by, in-finite, in-number, widen, _⊞_, _⊟_, _⊠_, scaled, holds, sums, differences, products, quotients, scales, sum-in, difference-in, product-in, quotient-in, scaled-in, counts, opposite, one-test}
 use Rattle.finite.proofs.Bounds.{decibels, airTimes, accountBytes, accountAir, accountFrames, capacities, lengths, shares, margins, offsets, RowIn, TableIn, TariffIn, AccountIn, OffsetsIn, Held, all-any}
 
 -- ---- a probability
@@ -154,6 +156,17 @@ compared-ends : T (bounded rates) × T (bounded values) × T (bounded accountFra
 unfolding ofBits le
 compared-ends = (tt, tt, tt, tt, tt)
 
+-- the Rust's test turns away what is above and has too few frames
+at-or-below : (i h : ℕ) → leb i h ≡ not (ltb h i)
+at-or-below i h = opposite (leb i h) (ltb h i) (λ a b. omega (arith, leb→le i h a, ltb→lt h i b)) (λ a. lt→ltb h i (nleb→lt i h a))
+
+neither : (a b c d : Bool) → a ≡ not b → c ≡ not d → (a || c) ≡ not (b && d)
+neither a b c d e g = rw (e, g) (go b)
+  where
+    go : (b : Bool) → (not b || not d) ≡ not (b && d)
+    go true = refl
+    go false = refl
+
 rate-lies : (x : Float) → In rates x → Lies f0 mostRate x
 rate-lies x k = (in-finite rates x (compared-ends .0) k, k)
 
@@ -192,17 +205,29 @@ module _ (t : Table) (p : Prices) (s : State) (ts : TableIn t) (ps : TariffIn (p
   unfolding losslessPrice
   lossless-price-in r = price-in r (lossless t r) (lossless-in r)
 
+  price-test : (r q : ℕ) → OneTest (losslessPrice t p r) (value t p s q)
+  price-test r q = one-test (losslessPrice t p r) (value t p s q) (value-number (losslessPrice t p r) (lossless-price-in r)) (value-number (value t p s q) (value-in q))
+
+  frames-test : (r : ℕ) → OneTest (account s r .frames) f2
+  frames-test r = one-test (account s r .frames) f2 (in-number accountFrames (account s r .frames) (compared-ends .2) (account-in r .frames)) (in-number (f2 to f2) f2 (compared-ends .3) (compared-ends .4))
+
   rung-compared : Compared t p s
-  rung-compared = record {
-    estimates = λ r. rate-lies (estimateAt t s r (s .snr)) (estimate-at-in r (s .snr) hs);
-    values = λ r. value-lies (value t p s r) (value-in r);
-    lossless-rates = λ r. rate-lies (lossless t r) (lossless-in r);
-    lossless-prices = λ r. value-lies (losslessPrice t p r) (lossless-price-in r);
-    first-values = λ snr k r. value-lies (priced t p r (estimateAt t s r (Value snr))) (price-in r (estimateAt t s r (Value snr)) (estimate-at-in r (Value snr) k));
-    value-over-value = λ r q. one-test (value t p s r) (value t p s q) (value-number (value t p s r) (value-in r)) (value-number (value t p s q) (value-in q));
-    price-over-value = λ r q. one-test (losslessPrice t p r) (value t p s q) (value-number (losslessPrice t p r) (lossless-price-in r)) (value-number (value t p s q) (value-in q));
-    frames-over-two = λ r. one-test (account s r .frames) f2 (in-number accountFrames (account s r .frames) (compared-ends .2) (account-in r .frames)) (in-number (f2 to f2) f2 (compared-ends .3) (compared-ends .4));
-  }
+  rung-compared =
+      let here = s .place .0 in
+      record {
+        estimates = λ r. rate-lies (estimateAt t s r (s .snr)) (estimate-at-in r (s .snr) hs);
+        values = λ r. value-lies (value t p s r) (value-in r);
+        lossless-rates = λ r. rate-lies (lossless t r) (lossless-in r);
+        lossless-prices = λ r. value-lies (losslessPrice t p r) (lossless-price-in r);
+        first-values = λ snr k r. value-lies (priced t p r (estimateAt t s r (Value snr))) (price-in r (estimateAt t s r (Value snr)) (estimate-at-in r (Value snr) k));
+        value-over-value = λ r q. one-test (value t p s r) (value t p s q) (value-number (value t p s r) (value-in r)) (value-number (value t p s q) (value-in q));
+        price-over-value = price-test;
+        frames-over-two = frames-test;
+        candidates = λ i.
+            let x = account s (rungAt t i) .frames in
+            ap (λ (b : Bool). usable t s i && b) (neither (leb i here) (ltb here i) (lt f2 x) (le x f2) (at-or-below i here) (frames-test (rungAt t i)));
+        beginnings = ap (λ (b : Bool). usable t s (suc here) && b && (due t p s (above t s) || cleanClimb t p s (above t s))) (price-test (above t s) (choice t s));
+      }
 
 pub compared : (t : Table) (p : Prices) (s : State) → TableIn t → TariffIn (p .tariff) → Held s → (z : State) → Alike s z → Compared t p z
 compared t p s ts ps h z a =

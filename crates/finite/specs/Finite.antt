@@ -1,10 +1,10 @@
 -- What holds of every controller that calls can leave: each of its numbers is finite and lies within named bounds, and so does each value and price that it compares.
 -- So no comparison meets a NaN, and "v > b" of document 01 is the test "not v <= b" of the Rust. Definitions only.
 use mathlib.Core.Path.{_≡_}
-use mathlib.Core.Bool.{not}
+use mathlib.Core.Bool.{Bool, not, _&&_, _||_}
 use mathlib.Core.List.{List}
-use Prim.Native.Nat.{ℕ, _≤_}
-use lib.Dec.{T}
+use Prim.Native.Nat.{ℕ, suc, _≤_}
+use lib.Dec.{T, ltb}
 use lib.Ieee.{Float, neg, le, lt}
 use lib.Ieee.Scale.{finite}
 use Rattle.float.specs.Numbers.{f64, within, f0, f1, f2}
@@ -14,17 +14,17 @@ use Rattle.ladder.specs.declared.types.Reading.{Reading}
 use Rattle.ladder.specs.declared.types.Reading.the-variants.{Missing, Value}
 use Rattle.ladder.specs.declared.types.Table.{Table}
 use Rattle.ladder.specs.Tables.{priorMargin}
-use Rattle.ladder.specs.Types.{row}
+use Rattle.ladder.specs.Types.{row, rungAt}
 use Rattle.account.specs.declared.types.Account.{Account}
 use Rattle.account.specs.declared.types.Tariff.{Tariff}
 use Rattle.account.specs.declared.types.Prices.{Prices}
 use Rattle.account.specs.declared.types.State.{State}
-use Rattle.account.specs.State.{account, timeOf, waitOf}
+use Rattle.account.specs.State.{account, timeOf, waitOf, choice}
 use Rattle.account.specs.Price.{burstOr, estimate, estimateAt, lossless, priced, value, losslessPrice, waitSeconds}
 use Rattle.steps.specs.declared.types.Frame.{Frame}
-use Rattle.steps.specs.Echo.{observeSnr}
+use Rattle.steps.specs.Echo.{usable, observeSnr}
 use Rattle.steps.specs.Booking.{f5, f20, booked}
-use Rattle.steps.specs.Tries.{judgeAbove}
+use Rattle.steps.specs.Tries.{judgeAbove, candidate, due, cleanClimb, above, begins}
 use Rattle.steps.specs.Transmission.{inside}
 use Rattle.rate.specs.declared.types.RateController.{RateController}
 use Rattle.rate.specs.Calls.{Call, Frames, verdict, after}
@@ -92,10 +92,19 @@ pub record StateLies (s : State) : Type 0 where
   pub ofdm-offset : Lies (neg f5) f20 (s .offsets .ofdm)
 
 -- ---- what is compared
--- "x > y" and "not x <= y" are one test: a NaN would part them. Document 01 has the first; the Rust asks `<=` of a lossless price against a value, and of
--- an account's frames against the prior's weight, and goes no further where it holds
+-- "x > y" and "not x <= y" are one test: a NaN would part them
 abbrev pub OneTest : Float → Float → Type 0
 OneTest x y = lt y x ≡ not (le x y)
+
+-- Document 01 has ">" throughout; the Rust's `decide` has `<=` in two places, and goes on to the next place, or no further, where it holds.
+-- `if i > self.index && self.account(self.modes[i]).frames <= self.prior_frames { continue; }`
+abbrev pub rustCandidate : Table → State → ℕ → Bool
+rustCandidate t s i = usable t s i && not (ltb (s .place .0) i && le (account s (rungAt t i) .frames) f2)
+
+-- `if self.priced(mode, self.lossless(mode)) <= self.value(self.modes[self.index]) { return; }`
+abbrev pub rustBegins : Table → Prices → State → Bool
+rustBegins t p s =
+    usable t s (suc (s .place .0)) && not (le (losslessPrice t p (above t s)) (value t p s (choice t s))) && (due t p s (above t s) || cleanClimb t p s (above t s))
 
 pub record Compared (t : Table) (p : Prices) (s : State) : Type 0 where
   pub estimates : (r : ℕ) → Lies f0 mostRate (estimate t s r)
@@ -104,10 +113,12 @@ pub record Compared (t : Table) (p : Prices) (s : State) : Type 0 where
   pub lossless-prices : (r : ℕ) → Lies f0 mostValue (losslessPrice t p r)
   -- what `first_mode` and `seed` compare, at every SNR that they accept
   pub first-values : (snr : Float) → T (okDb snr) → (r : ℕ) → Lies f0 mostValue (priced t p r (estimateAt t s r (Value snr)))
-  -- a value against a value, a lossless price against a value, and "over 2 decayed frames"
+  -- a value against a value, a lossless price against a value, and "over 2 decayed frames"; so the definitions' tests are the Rust's
   pub value-over-value : (r q : ℕ) → OneTest (value t p s r) (value t p s q)
   pub price-over-value : (r q : ℕ) → OneTest (losslessPrice t p r) (value t p s q)
   pub frames-over-two : (r : ℕ) → OneTest (account s r .frames) f2
+  pub candidates : (i : ℕ) → candidate t s i ≡ rustCandidate t s i
+  pub beginnings : begins t p s ≡ rustBegins t p s
 
 -- A state with the accounts, offsets and SNR of s, which are all that a value is read from: within a call the place, the try, the echo, times, waits and marks
 -- may have moved before values are compared
