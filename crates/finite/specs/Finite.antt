@@ -97,11 +97,11 @@ abbrev pub OneTest : Float → Float → Type 0
 OneTest x y = lt y x ≡ not (le x y)
 
 -- Document 01 has ">" throughout; the Rust's `decide` has `<=` in two places, and goes on to the next place, or no further, where it holds.
--- `if i > self.index && self.account(self.modes[i]).frames <= self.prior_frames { continue; }`
+-- It passes over a place above the choice whose rung's frames are <= 2
 abbrev pub rustCandidate : Table → State → ℕ → Bool
 rustCandidate t s i = usable t s i && not (ltb (s .place .0) i && le (account s (rungAt t i) .frames) f2)
 
--- `if self.priced(mode, self.lossless(mode)) <= self.value(self.modes[self.index]) { return; }`
+-- and begins no try where the lossless price of the rung above is <= the choice's value
 abbrev pub rustBegins : Table → Prices → State → Bool
 rustBegins t p s =
     usable t s (suc (s .place .0)) && not (le (losslessPrice t p (above t s)) (value t p s (choice t s))) && (due t p s (above t s) || cleanClimb t p s (above t s))
