@@ -1,5 +1,9 @@
 pub mod Powers
-pub mod Descent
+pub mod Rows
 pub mod InversePower
 pub mod Range
+pub mod Fraction
+pub mod Places
+pub mod Steps
+pub mod Taken
 pub mod Ageing

@@ -97,7 +97,7 @@ descent-in (suc left) s d w r k t h =
 abbrev f1024 : Float
 f1024 = f64 0x4090_0000_0000_0000
 
-abbrev last-step : Float
+abbrev pub last-step : Float
 last-step = f64 0x3f70_0000_0000_0000
 
 steps-fine : T (fine 10 f512 f1024) × T (fine 8 f½ one64)

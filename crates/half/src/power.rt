@@ -1,11 +1,14 @@
 // The half-power: 2 ^ -t by a table of 256 entries, a short series and a power of two.
 ghost use mathlib.Core.Path.{_≡_};
-ghost use Prim.Native.Nat.{_*_, _<_};
+ghost use mathlib.Core.Bool.{false};
+ghost use Prim.Native.Nat.{_<_};
+ghost use lib.Ieee.{le};
 ghost use Rattle.half.specs.Powers.{powerAt};
-ghost use Rattle.half.specs.Power.{inversePower, descent, series, half};
+ghost use Rattle.half.specs.Power.{f1022, inversePower, wholeSteps, partSteps, series, half};
 
-// The table H: entry j is the f64 nearest to 2 ^ (-j / 256), by the rule of specs/Powers.antt.
-const HALF_POWERS: [f64; 256] = [
+// The table H: entry j is the f64 nearest to 2 ^ (-j / 256), by the rule of specs/Powers.antt. It stands in 16 rows of 16,
+// since a read of a constant array writes the whole of it to the stack.
+const ROW_0: [f64; 16] = [
     1.0,
     0.9972960560854701,
     0.9945994234836332,
@@ -22,6 +25,9 @@ const HALF_POWERS: [f64; 256] = [
     0.9654133954938136,
     0.9628029718180625,
     0.9601996065815237,
+];
+
+const ROW_1: [f64; 16] = [
     0.9576032806985737,
     0.9550139751351949,
     0.9524316709088371,
@@ -38,6 +44,9 @@ const HALF_POWERS: [f64; 256] = [
     0.9244830347552254,
     0.921983284479313,
     0.9194902933879469,
+];
+
+const ROW_2: [f64; 16] = [
     0.9170040432046712,
     0.9145245157024486,
     0.9120516927035267,
@@ -54,6 +63,9 @@ const HALF_POWERS: [f64; 256] = [
     0.8852879870317774,
     0.8828942179666364,
     0.880506921518792,
+];
+
+const ROW_3: [f64; 16] = [
     0.8781260801866497,
     0.8757516765159391,
     0.8733836930995845,
@@ -70,6 +82,9 @@ const HALF_POWERS: [f64; 256] = [
     0.8477546807446663,
     0.8454623996346526,
     0.8431763167241967,
+];
+
+const ROW_4: [f64; 16] = [
     0.8408964152537145,
     0.8386226785089392,
     0.8363550898207983,
@@ -86,6 +101,9 @@ const HALF_POWERS: [f64; 256] = [
     0.8118126635086644,
     0.8096175675974319,
     0.8074284071024304,
+];
+
+const ROW_5: [f64; 16] = [
     0.8052451659746271,
     0.8030678282083855,
     0.8008963778413467,
@@ -102,6 +120,9 @@ const HALF_POWERS: [f64; 256] = [
     0.7773944698885443,
     0.7752924388425,
     0.7731960915705107,
+];
+
+const ROW_6: [f64; 16] = [
     0.7711054127039704,
     0.7690203869158284,
     0.766940998920478,
@@ -118,6 +139,9 @@ const HALF_POWERS: [f64; 256] = [
     0.7444354947621985,
     0.7424225829363762,
     0.7404151139112359,
+];
+
+const ROW_7: [f64; 16] = [
     0.7384130729697497,
     0.7364164454346838,
     0.7344252166684909,
@@ -134,6 +158,9 @@ const HALF_POWERS: [f64; 256] = [
     0.7128738720527471,
     0.7109463010845828,
     0.7090239421602076,
+];
+
+const ROW_8: [f64; 16] = [
     0.7071067811865476,
     0.7051948041086353,
     0.7032879969095077,
@@ -150,6 +177,9 @@ const HALF_POWERS: [f64; 256] = [
     0.682650358602006,
     0.6808045103191124,
     0.6789636531064506,
+];
+
+const ROW_9: [f64; 16] = [
     0.6771277734684463,
     0.6752968579460172,
     0.6734708931164729,
@@ -166,6 +196,9 @@ const HALF_POWERS: [f64; 256] = [
     0.6537082229673387,
     0.6519406325959679,
     0.6501778216898253,
+];
+
+const ROW_10: [f64; 16] = [
     0.6484197773255048,
     0.6466664866145447,
     0.6449179367033329,
@@ -182,6 +215,9 @@ const HALF_POWERS: [f64; 256] = [
     0.6259931389331581,
     0.6243004885946024,
     0.622612415087629,
+];
+
+const ROW_11: [f64; 16] = [
     0.620928906036742,
     0.6192499490999083,
     0.6175755319684667,
@@ -198,6 +234,9 @@ const HALF_POWERS: [f64; 256] = [
     0.5994530835371903,
     0.5978321960199137,
     0.5962156912915756,
+];
+
+const ROW_12: [f64; 16] = [
     0.5946035575013605,
     0.5929957828304969,
     0.5913923554921705,
@@ -214,6 +253,9 @@ const HALF_POWERS: [f64; 256] = [
     0.5740382394200895,
     0.5724860722159021,
     0.5709381019847808,
+];
+
+const ROW_13: [f64; 16] = [
     0.5693943173783458,
     0.5678547070789027,
     0.5663192597993596,
@@ -230,6 +272,9 @@ const HALF_POWERS: [f64; 256] = [
     0.549700901315111,
     0.5482145409081884,
     0.5467321995364429,
+];
+
+const ROW_14: [f64; 16] = [
     0.5452538663326288,
     0.5437795304588848,
     0.5423091811066546,
@@ -246,6 +291,9 @@ const HALF_POWERS: [f64; 256] = [
     0.5263953865023132,
     0.5249720429003436,
     0.5235525479396449,
+];
+
+const ROW_15: [f64; 16] = [
     0.5221368912137069,
     0.520725062344158,
     0.5193170509806894,
@@ -264,12 +312,30 @@ const HALF_POWERS: [f64; 256] = [
     0.5013556375251013,
 ];
 
-// H[j].
+// H[j]: entry j % 16 of row j / 16.
 fn half_power(j: usize) -> f64
     requires { ⌜ j < 256 ⌝ }
     ensures { λ r. ⌜ r ≡ powerAt j ⌝ }
 {
-    HALF_POWERS[j]
+    let i = j % 16;
+    match j / 16 {
+        0 => ROW_0[i],
+        1 => ROW_1[i],
+        2 => ROW_2[i],
+        3 => ROW_3[i],
+        4 => ROW_4[i],
+        5 => ROW_5[i],
+        6 => ROW_6[i],
+        7 => ROW_7[i],
+        8 => ROW_8[i],
+        9 => ROW_9[i],
+        10 => ROW_10[i],
+        11 => ROW_11[i],
+        12 => ROW_12[i],
+        13 => ROW_13[i],
+        14 => ROW_14[i],
+        _ => ROW_15[i],
+    }
 }
 
 // 2 ^ -n, exactly: the exponent's field is 1023 - n, and for n = 1023 the value is subnormal.
@@ -284,32 +350,31 @@ fn inverse_power(n: usize) -> f64
     }
 }
 
-// What is left after some steps, each half of the one before, and the sum of the weights of the steps taken.
-struct Descent {
+// What the steps take off t: `whole` by the whole steps, `part` / 256 by the others, and what is left.
+struct Taken {
+    whole: usize,
+    part: usize,
     rest: f64,
-    count: usize,
 }
 
-// Subtracts `steps` steps from t, the first of them `first`, of weight `weight`, wherever what is left is at least the step.
-fn descend(t: f64, first: f64, weight: usize, steps: usize) -> Descent
-    requires { ⌜ (0 < weight) × (weight < 1024) ⌝ }
-    ensures { λ r. ⌜ (r .rest ≡ descent steps first weight t 0 .0) × (r .count ≡ descent steps first weight t 0 .1) × (r .count < 2 * weight) ⌝ }
+// All the steps at once. From 1/256 on, what they take off is the largest multiple of 1/256 up to t, and every operation is exact.
+// Below, as at a negative t and a NaN, no step is taken.
+fn take_steps(t: f64) -> Taken
+    requires { ⌜ le f1022 t ≡ false ⌝ }
+    ensures { λ r. ⌜ (r .rest ≡ partSteps t .0) × (r .part ≡ partSteps t .1) × (r .whole ≡ wholeSteps t .1) × (r .part < 256) × (r .whole < 1024) ⌝ }
 {
-    let mut rest = t;
-    let mut count: usize = 0;
-    let mut s = first;
-    let mut w = weight;
-    let mut left = steps;
-    while left > 0 {
-        if rest >= s {
-            rest = rest - s;
-            count += w;
-        }
-        s = s * 0.5;
-        w = w / 2;
-        left -= 1;
+    if t >= 0.00390625 {
+        let n = std::num::truncating_f64_to_u64(t * 256.0) as u32;
+        let rest = t - n as f64 * 0.00390625;
+        let whole = (n / 256) as usize;
+        let part = (n % 256) as usize;
+        return Taken { whole, part, rest };
     }
-    Descent { rest, count }
+    Taken {
+        whole: 0,
+        part: 0,
+        rest: t,
+    }
 }
 
 // 2 ^ -r for r up to 1/256, by its series in u = r ln 2.
@@ -331,8 +396,7 @@ pub fn half(t: f64) -> f64
     if t >= 1022.0 {
         return 0.0;
     }
-    let whole = descend(t, 512.0, 512, 10);
-    let parts = descend(whole.rest, 0.5, 128, 8);
-    let q = series_at(parts.rest);
-    (half_power(parts.count) * q) * inverse_power(whole.count)
+    let s = take_steps(t);
+    let q = series_at(s.rest);
+    (half_power(s.part) * q) * inverse_power(s.whole)
 }

@@ -1,0 +1,33 @@
+-- Entry j of the table H is entry j % 16 of its row j / 16. Assumes nothing.
+use mathlib.Core.Path.{_≡_, refl}
+use mathlib.Core.List.{List}
+use Prim.Native.Nat.{ℕ, zero, suc, _+_, _*_, _/_, _%_, _≤_, _<_, zero-le}
+use native.Mathlib.Omega.{arith}
+use lib.ListN.{take, drop, getD}
+use lib.Seq.{getD-drop, getD-take}
+use lib.Ieee.{Float, nan}
+use Rattle.half.specs.Powers.{powers, powerAt}
+
+abbrev row : ℕ → List Float
+row k = take 16 (drop (k * 16) powers)
+
+pub in-row : (j k : ℕ) → j / 16 ≡ k → getD (row k) (j % 16) nan ≡ powerAt j
+in-row j k h =
+    let low : j % 16 < 16 = omega arith in
+    let place : k * 16 + j % 16 ≡ j = omega arith in
+    rw (getD-take, getD-drop, place) refl
+
+-- n is none of the numbers below k, as a match on n finds it after k arms
+abbrev pub None : ℕ → ℕ → Type 0
+None zero n = Unit
+None (suc k) n = None k n × (n ≡ k → ⊥)
+
+from : (k n : ℕ) → None k n → k ≤ n
+from zero n h = zero-le
+from (suc k) n h =
+    let l = from k n (h .0) in
+    let d = h .1 in
+    omega arith
+
+pub last-row : (j : ℕ) → j < 256 → None 15 (j / 16) → j / 16 ≡ 15
+last-row j b h = let l = from 15 (j / 16) h in omega arith
