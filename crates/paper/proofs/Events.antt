@@ -6,7 +6,6 @@ use Prim.Native.Nat.{ℕ, zero, suc, _+_, _-_, _≤_, _<_}
 use native.Mathlib.Numerals.{add-one}
 use native.Mathlib.Omega.{arith}
 use borrow.Author.Tests.{leb-true, leb-false}
-use lib.Dec.{eqb}
 use lib.ListN.{length, getD, drop}
 use lib.Seq.{drop-cons}
 use Rattle.limits.specs.declared.refusal.Verdict.{Verdict}
@@ -15,7 +14,6 @@ use Rattle.ladder.specs.Lists.{tabulate}
 use Rattle.rate.specs.declared.types.RateController.{RateController}
 use Rattle.rate.specs.declared.types.Answer.{Answer}
 use Rattle.rate.specs.Calls.{Call, step}
-use Rattle.rate.specs.Reads.{choiceOf}
 use Rattle.paper.specs.Body.{callOf}
 use Rattle.paper.specs.File.{eventCount, air, bodyAt, atEnd}
 use Rattle.paper.specs.Sheet.{Line, Score, freshFor, callAt, callsOf, lineOf, lineBytes, linesFrom, sheetOf, scoredBy, scored, scoreFrom, scoreOf}
@@ -84,9 +82,9 @@ pub score-end : (s xs : List ℕ) (n i : ℕ) (m : Score) (k : RateController) �
 unfolding scoreFrom
 score-end s xs n i m k h = rw (calls-end s n i h)
 
-at-most-one : (b : Bool) → cond b 1 0 ≤ 1
-at-most-one true = omega arith
-at-most-one false = omega arith
+plus-bit : (b : Bool) (n : ℕ) → n + cond b 1 0 ≤ n + 1
+plus-bit true n = omega arith
+plus-bit false n = omega arith
 
 -- an answer adds at most one
 pub scored-most : (m : Score) (a : Answer) (x : ℕ) (r : Score) → r ≡ scored m a x → (r .right ≤ m .right + 1) × (r .counted ≤ m .counted + 1)
@@ -94,5 +92,5 @@ unfolding scored
 scored-most m a x r e = rw e (go (a .verdict))
   where
     go : (v : Verdict) → (scoredBy m a x v .right ≤ m .right + 1) × (scoredBy m a x v .counted ≤ m .counted + 1)
-    go Accepted = omega (arith, at-most-one (eqb x (choiceOf (a .controller) .0)))
+    go Accepted = (search plus-bit, omega arith)
     go (Refused why) = omega arith
