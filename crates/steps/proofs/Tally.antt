@@ -1,5 +1,6 @@
 -- One pass over the frames gathers what the definitions' passes give each: the fold of the step is the tally of the folds. The sums and counts start where a tally
--- stands, so that each part goes by induction over the frames. Assumes nothing.
+-- stands, so that each part goes by induction over the frames; that it knows its table, and that the factors it keeps are right, holds from the beginning on.
+-- Assumes nothing.
 use mathlib.Core.Path.{_≡_, refl, sym, ap, _∙_}
 use mathlib.Core.Bool.{Bool, true, false, not, _&&_, _||_, cond, or-true, or-false, or-assoc, and-true, and-assoc}
 use mathlib.Core.List.{List, [], _∷_, foldl}
@@ -7,39 +8,131 @@ use Prim.Native.Nat.{ℕ, zero, suc, _+_, _*_, _≤_, _<_, min}
 use native.Mathlib.Nat.{zero-add}
 use native.Mathlib.Omega.{arith}
 use native.Mathlib.Decide.{decLt}
-use lib.Dec.{ltb, eqb}
+use lib.Dec.{T, ltb, eqb}
+use lib.Ieee.{Float, ofBits, lt, eq}
+use lib.ListN.{length, getD, set, replicate, length-set, List·getD-map}
+use lib.Seq.{getD-set-same, getD-set-other}
 use borrow.Author.Tests.{lt-ltb, le-ltb, le-leb, ne-eqb}
-use Rattle.float.specs.Numbers.{f0}
+use Rattle.float.specs.Numbers.{f0, f1}
 use Rattle.float.specs.Sum.{total}
 use Rattle.ladder.specs.declared.types.Reading.{Reading}
 use Rattle.ladder.specs.declared.types.Reading.the-variants.{Missing, Value}
+use Rattle.ladder.specs.declared.types.Row.{Row}
 use Rattle.ladder.specs.declared.types.Rung.{Rung}
 use Rattle.ladder.specs.declared.types.Table.{Table}
 use Rattle.ladder.specs.Lists.{every}
-use Rattle.ladder.specs.Types.{isFloor}
+use Rattle.ladder.specs.Types.{row, noRow, rungsOf, isFloor}
+use Rattle.account.specs.declared.types.Account.{Account}
 use Rattle.account.specs.declared.types.Offsets.{Offsets}
 use Rattle.account.specs.declared.types.Prices.{Prices}
 use Rattle.account.specs.declared.types.State.{State}
 use Rattle.account.specs.declared.types.Trying.{Trying}
 use Rattle.account.specs.declared.types.Trying.the-variants.{Nothing, Running}
+use Rattle.account.specs.Price.{chance}
 use Rattle.account.specs.State.{waitOf, choice, withTime, withWait}
 use Rattle.steps.specs.Lists.{some-of, howMany}
 use Rattle.steps.specs.Echo.{observeSnr}
-use Rattle.steps.specs.Booking.{Frame, at, offsetsAt, offsetsAfter, book, ofdm, judgeFamily, airs, callAir, sent, cleanMark, booked}
+use Rattle.steps.specs.Booking.{Frame, at, offsetsAt, offsetsAfter, bookFrame, book, ofdm, judgeFamily, airs, callAir, sent, cleanMark, booked}
 use Rattle.steps.specs.Tries.{better, judgeTry, toJudge, judgeSent, judgeAbove, ownFrames, endTry, counted}
 use Rattle.steps.specs.Sets.{inSet, judgeSet}
-use Rattle.steps.specs.Tally.{Tally, Marks, addRung, offsetsBy, markFamily, markChoice, familyMark, choiceMark, countOwn, beginTally, bookStep, bookAll, finishBooking}
+use Rattle.steps.specs.Tally.{Tally, Marks, addRung, factor, fill, fadesFor, booksBy, offsetsBy, thresholdAt, timesOf, thresholdsOf, priorAt, fadesOf, markFamily, markChoice, familyMark, choiceMark, countOwn, beginTally, bookStep, bookAll, finishBooking}
 use Rattle.steps.specs.Transmission.{judged, inside}
+use Rattle.steps.proofs.Fade.{same-air}
 use Rattle.steps.proofs.Set.{adds, none-in, judge-frames}
 
+-- ---- what a pass knows of its table
+-- entries stored from i on leave those before it
+fill-before : (n i j : ℕ) (g : ℕ → Float) (l : List Float) (d : Float) → j < i → getD (fill n i g l) j d ≡ getD l j d
+unfolding fill
+fill-before zero i j g l d h = refl
+fill-before (suc n) i j g l d h = fill-before n (suc i) j g (set l i (g i)) d (omega arith) ∙ getD-set-other l i j (g i) d (λ e. omega arith)
+
+fill-at : (n i j : ℕ) (g : ℕ → Float) (l : List Float) (d : Float) → i ≤ j → j < i + n → i + n ≤ length l → getD (fill n i g l) j d ≡ g j
+unfolding fill
+fill-at zero i j g l d h k m = absurd (omega arith)
+fill-at (suc n) i j g l d h k m =
+    elim (decLt i j) [
+      | yes o ↦ fill-at n (suc i) j g (set l i (g i)) d o (omega arith) (omega (arith, length-set l i (g i)))
+      | no o ↦
+          let e : j ≡ i = omega arith in
+          rw e (fill-before n (suc i) i g (set l i (g i)) d (omega arith) ∙ getD-set-same l i (g i) d (omega arith))
+    ]
+
+-- the table's values, and the kept factors, those of their air, if there is one
+record Reads (t : Table) (y : Tally) : Type 0 where
+  times : (r : ℕ) → getD (y .times) r f1 ≡ row t r .time
+  thresholds : (r : ℕ) → thresholdAt (y .thresholds) r ≡ row t r .threshold
+  margin : y .margin ≡ t .margin
+  gain : y .gain ≡ t .gain
+  count : y .count ≡ t .count
+  floors : y .floors ≡ t .floors
+  kept : T (lt f0 (y .faded)) → (r : ℕ) → r < rungsOf t → getD (y .fades) r f1 ≡ factor (y .faded) (row t r .time)
+
+begin-reads : (t : Table) (s : State) → Reads t (beginTally t s)
+unfolding beginTally timesOf thresholdsOf ofBits lt
+begin-reads t s = record {
+  times = λ r. List·getD-map (λ (x : Row). x .time) (t .rows) r noRow;
+  thresholds = λ r. List·getD-map (λ (x : Row). x .threshold) (t .rows) r noRow;
+  margin = refl;
+  gain = refl;
+  count = refl;
+  floors = refl;
+  kept = λ h. absurd h;
+}
+
+module _ (t : Table) (y : Tally) (reads : Reads t y) (f : Frame) where
+  -- the factors for a frame, kept or computed, are those that the definition asks for
+  fades-right : (r : ℕ) → r < rungsOf t → getD (fadesOf y f) r f1 ≡ factor (f .air) (row t r .time)
+  fades-right r h = go (lt f0 (y .faded)) (eq (f .air) (y .faded)) (reads .kept) (λ j k. same-air (f .air) (y .faded) (row t r .time) j k)
+    where
+      new : getD (fadesFor (y .times) (y .count) (f .air)) r f1 ≡ factor (f .air) (row t r .time)
+      new =
+          rw (reads .count)
+          (fill-at (rungsOf t) 0 r (λ i. factor (f .air) (getD (y .times) i f1)) (replicate 32 f0) f1 (omega arith) (omega arith) (omega arith) ∙ ap (factor (f .air)) (reads .times r))
+
+      go : (a b : Bool)
+          → (T a → (k : ℕ) → k < rungsOf t → getD (y .fades) k f1 ≡ factor (y .faded) (row t k .time))
+          → (T a → T b → factor (y .faded) (row t r .time) ≡ factor (f .air) (row t r .time))
+          → getD (cond (a && b) (y .fades) (fadesFor (y .times) (y .count) (f .air))) r f1 ≡ factor (f .air) (row t r .time)
+      go true true k e = k tt r h ∙ e tt tt
+      go true false k e = new
+      go false b k e = new
+
+  step-reads : Reads t (bookStep y f)
+  unfolding bookStep
+  step-reads = record {
+    times = reads .times;
+    thresholds = reads .thresholds;
+    margin = reads .margin;
+    gain = reads .gain;
+    count = reads .count;
+    floors = reads .floors;
+    kept = λ h. fades-right;
+  }
+
 -- ---- the parts
+-- accounts by the right factors are those that the definition books
+books : (n r : ℕ) (t : Table) (fades : List Float) (f : Frame) (l : List Account)
+    → ((k : ℕ) → k < r + n → getD fades k f1 ≡ factor (f .air) (row t k .time))
+    → booksBy n r fades f l ≡ bookFrame n r t f l
+unfolding booksBy bookFrame
+books zero r t fades f l right = refl
+books (suc n) r t fades f l right = rw (right r (omega arith)) (books n (suc r) t fades f _ (λ k h. right k (omega arith)))
+
+accounts-step : (t : Table) (y : Tally) → Reads t y → (f : Frame) → booksBy (min 32 (y .count)) 0 (fadesOf y f) f (y .accounts) ≡ bookFrame (rungsOf t) 0 t f (y .accounts)
+accounts-step t y reads f =
+    ap (λ (n : ℕ). booksBy (min 32 n) 0 (fadesOf y f) f (y .accounts)) (reads .count)
+    ∙ books (rungsOf t) 0 t (fadesOf y f) f (y .accounts) (λ k h. fades-right t y reads f k (omega arith))
+
 offsets-none : (t : Table) (snr : Reading) (o : Offsets) → offsetsAt t snr [] o ≡ o
 offsets-none t Missing o = refl
 offsets-none t (Value snr) o = refl
 
-offsets-step : (t : Table) (snr : Reading) (f : Frame) (fs : List Frame) (o : Offsets) → offsetsAt t snr fs (offsetsBy t snr f o) ≡ offsetsAt t snr (f ∷ fs) o
-offsets-step t Missing f fs o = refl
-offsets-step t (Value snr) f fs o = refl
+offsets-step : (t : Table) (y : Tally) → Reads t y → (snr : Reading) (f : Frame) (fs : List Frame) (o : Offsets)
+    → offsetsAt t snr fs (offsetsBy (priorAt y (f .rung .0)) (y .floors) snr f o) ≡ offsetsAt t snr (f ∷ fs) o
+unfolding chance
+offsets-step t y reads Missing f fs o = refl
+offsets-step t y reads (Value snr) f fs o = rw (reads .thresholds (f .rung .0), reads .margin, reads .gain, reads .floors) refl
 
 -- the set of the rungs sent, and the count of a try's own frames, up to 3
 abbrev rungsFrom : ℕ → List Frame → ℕ
@@ -73,7 +166,7 @@ byChoice b f m =
 
 -- and those of the frames after it
 marks-step : (t : Table) (here : ℕ) (f : Frame) (fs : List Frame) (m : Marks)
-    → marksFrom t here fs (markChoice here f (markFamily t f m)) ≡ marksFrom t here (f ∷ fs) m
+    → marksFrom t here fs (markChoice here f (markFamily (t .floors) f m)) ≡ marksFrom t here (f ∷ fs) m
 marks-step t here f fs m =
     go (isFloor t (f .rung .0)) (at here f) (some-of (ofdm t) fs) (some-of (heardOf t) fs) (sent fs here) (every (clean here) fs)
   where
@@ -98,62 +191,75 @@ marks-step t here f fs m =
     go false false p q r u = rw (or-true (m .ofdm), or-assoc (m .heard) (f .decoded) q) refl
 
 -- ---- the whole
--- what the folds make of a tally
-abbrev tallied : Tally → List Frame → Tally
-tallied y fs = record {
-  table = y .table;
+-- what the folds make of a tally; what it keeps for the next frame is no fold's
+abbrev tallied : Table → Tally → List Frame → List Float → Float → Tally
+tallied t y fs fades faded = record {
+  times = y .times;
+  margin = y .margin;
+  thresholds = y .thresholds;
+  gain = y .gain;
+  fades = fades;
+  faded = faded;
   snr = y .snr;
-  here = y .here;
   trying = y .trying;
-  accounts = book (y .table) fs (y .accounts);
-  offsets = offsetsAt (y .table) (y .snr) fs (y .offsets);
-  air = total (y .air) (airs fs);
+  here = y .here;
+  count = y .count;
+  floors = y .floors;
   sent = rungsFrom (y .sent) fs;
-  marks = marksFrom (y .table) (y .here .0) fs (y .marks);
+  accounts = book t fs (y .accounts);
+  offsets = offsetsAt t (y .snr) fs (y .offsets);
+  air = total (y .air) (airs fs);
   own = countFrom (y .trying) (y .own) fs;
+  marks = marksFrom t (y .here .0) fs (y .marks);
 }
 
-tallied-none : (y : Tally) → y ≡ tallied y []
+tallied-none : (t : Table) (y : Tally) → y ≡ tallied t y [] (y .fades) (y .faded)
 unfolding book total
-tallied-none y =
+tallied-none t y =
     let m = y .marks in
-    rw (offsets-none (y .table) (y .snr) (y .offsets), or-false (m .ofdm), or-false (m .heard), or-false (m .chosen), and-true (m .alone)) refl
+    rw (offsets-none t (y .snr) (y .offsets), or-false (m .ofdm), or-false (m .heard), or-false (m .chosen), and-true (m .alone)) refl
 
-tallied-step : (y : Tally) (f : Frame) (fs : List Frame) → tallied (bookStep y f) fs ≡ tallied y (f ∷ fs)
+tallied-step : (t : Table) (y : Tally) → Reads t y → (f : Frame) (fs : List Frame) (fades : List Float) (faded : Float)
+    → tallied t (bookStep y f) fs fades faded ≡ tallied t y (f ∷ fs) fades faded
 unfolding book total bookStep
-tallied-step y f fs = rw (offsets-step (y .table) (y .snr) f fs (y .offsets), marks-step (y .table) (y .here .0) f fs (y .marks)) refl
+tallied-step t y reads f fs fades faded =
+    rw (offsets-step t y reads (y .snr) f fs (y .offsets), accounts-step t y reads f, reads .floors, marks-step t (y .here .0) f fs (y .marks)) refl
 
 -- the fold of the step is the tally of the folds
-gathers : (y : Tally) (fs : List Frame) → bookAll y fs ≡ tallied y fs
-gathers y [] = tallied-none y
-gathers y (f ∷ fs) = gathers (bookStep y f) fs ∙ tallied-step y f fs
+gathers : (t : Table) (y : Tally) → Reads t y → (fs : List Frame) → bookAll y fs ≡ tallied t y fs (bookAll y fs .fades) (bookAll y fs .faded)
+gathers t y reads [] = tallied-none t y
+gathers t y reads (f ∷ fs) =
+    gathers t (bookStep y f) (step-reads t y reads f) fs ∙ tallied-step t y reads f fs (bookAll y (f ∷ fs) .fades) (bookAll y (f ∷ fs) .faded)
+
+gathered : (t : Table) (s : State) (fs : List Frame) → bookAll (beginTally t s) fs ≡ tallied t (beginTally t s) fs (bookAll (beginTally t s) fs .fades) (bookAll (beginTally t s) fs .faded)
+gathered t s = gathers t (beginTally t s) (begin-reads t s)
 
 -- ---- a pass from its beginning: what each part of it gathers
 module _ (t : Table) (s : State) (fs : List Frame) where
   pub accounts-booked : bookAll (beginTally t s) fs .accounts ≡ book t fs (s .accounts)
   unfolding beginTally
-  accounts-booked = ap (λ (y : Tally). y .accounts) (gathers (beginTally t s) fs)
+  accounts-booked = ap (λ (y : Tally). y .accounts) (gathered t s fs)
 
   pub offsets-moved : bookAll (beginTally t s) fs .offsets ≡ offsetsAfter t s fs
   unfolding beginTally offsetsAfter
-  offsets-moved = ap (λ (y : Tally). y .offsets) (gathers (beginTally t s) fs)
+  offsets-moved = ap (λ (y : Tally). y .offsets) (gathered t s fs)
 
   pub air-summed : bookAll (beginTally t s) fs .air ≡ callAir fs
   unfolding beginTally
-  air-summed = ap (λ (y : Tally). y .air) (gathers (beginTally t s) fs)
+  air-summed = ap (λ (y : Tally). y .air) (gathered t s fs)
 
   pub family-judged : familyMark (bookAll (beginTally t s) fs .marks) (s .failed) ≡ judgeFamily t fs (s .failed)
   unfolding beginTally judgeFamily
-  family-judged = ap (λ (y : Tally). familyMark (y .marks) (s .failed)) (gathers (beginTally t s) fs)
+  family-judged = ap (λ (y : Tally). familyMark (y .marks) (s .failed)) (gathered t s fs)
 
   pub clean-marked : choiceMark (bookAll (beginTally t s) fs .marks) (bookAll (beginTally t s) fs .here) ≡ cleanMark (choice t s) fs
   unfolding beginTally cleanMark
-  clean-marked = ap (λ (y : Tally). choiceMark (y .marks) (y .here)) (gathers (beginTally t s) fs)
+  clean-marked = ap (λ (y : Tally). choiceMark (y .marks) (y .here)) (gathered t s fs)
 
   -- the state after the pass is the one that the definitions book
   pub pass-books : finishBooking t s (bookAll (beginTally t s) fs) ≡ booked t s fs
   unfolding beginTally finishBooking booked offsetsAfter judgeFamily cleanMark
-  pass-books = ap (finishBooking t s) (gathers (beginTally t s) fs)
+  pass-books = ap (finishBooking t s) (gathered t s fs)
 
 -- ---- the set of rungs sent
 add-rung : (set q r : ℕ) → r < 32 → inSet (addRung set q) r ≡ (eqb q r || inSet set r)
@@ -176,7 +282,7 @@ rungs-from set (f ∷ fs) r h =
 
 pub rungs-sent : (t : Table) (s : State) (fs : List Frame) (r : ℕ) → r < 32 → inSet (bookAll (beginTally t s) fs .sent) r ≡ sent fs r
 unfolding beginTally
-rungs-sent t s fs r h = rw (gathers (beginTally t s) fs) (rungs-from 0 fs r h ∙ rw (none-in r) (or-false (sent fs r)))
+rungs-sent t s fs r h = rw (gathered t s fs) (rungs-from 0 fs r h ∙ rw (none-in r) (or-false (sent fs r)))
 
 -- ---- the try's own frames, counted up to 3
 counts-none : (n : ℕ) (fs : List Frame) → countFrom Nothing n fs ≡ n
@@ -203,7 +309,7 @@ own-from (Running r calls frames) fs = counts r calls frames 0 fs (omega arith) 
 
 pub own-counted : (t : Table) (s : State) (fs : List Frame) → bookAll (beginTally t s) fs .own ≡ min 3 (ownFrames fs (s .trying))
 unfolding beginTally
-own-counted t s fs = rw (gathers (beginTally t s) fs) (own-from (s .trying) fs)
+own-counted t s fs = rw (gathered t s fs) (own-from (s .trying) fs)
 
 -- which is all that the end of a try asks of the count
 pub counted-to-3 : (t : Table) (p : Prices) (n : ℕ) (s : State) (y : Trying) → counted t p (min 3 n) s y ≡ counted t p n s y

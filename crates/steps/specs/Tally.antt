@@ -1,18 +1,20 @@
 -- A transmission in one pass: what a pass over the frames needs and gathers, and what one frame does to it. The folds of Booking.antt and Tries.antt are what is
 -- right: proofs/Tally.antt shows that this one fold gives them all. Definitions only.
 use mathlib.Core.Bool.{Bool, true, false, not, _&&_, _||_, cond}
-use mathlib.Core.List.{List, foldl}
-use Prim.Native.Nat.{ℕ, suc, _^_}
+use mathlib.Core.List.{List, foldl, map}
+use Prim.Native.Nat.{ℕ, zero, suc, _^_, min}
 use lib.Bits.{bitOr}
 use lib.Dec.{ltb}
 use lib.Ieee.{Float, lt, eq}
-use Rattle.float.specs.Numbers.{_⊕_, _⊗_, _⊘_, f0, f1}
+use lib.ListN.{getD, set, replicate}
+use Rattle.float.specs.Numbers.{_⊕_, _⊖_, _⊗_, _⊘_, f0, f1}
 use Rattle.half.specs.Power.{half}
 use Rattle.ladder.specs.declared.types.Reading.{Reading}
 use Rattle.ladder.specs.declared.types.Reading.the-variants.{Missing, Value}
 use Rattle.ladder.specs.declared.types.Rung.{Rung}
 use Rattle.ladder.specs.declared.types.Table.{Table}
-use Rattle.ladder.specs.Types.{rung, rungsOf, placesOf, isFloor}
+use Rattle.ladder.specs.declared.types.Row.{Row}
+use Rattle.ladder.specs.Types.{rung, placesOf}
 use Rattle.account.specs.declared.types.Account.{Account}
 use Rattle.account.specs.declared.types.Mark.{Mark}
 use Rattle.account.specs.declared.types.Mark.the-variants.{Nowhere, On}
@@ -20,10 +22,13 @@ use Rattle.account.specs.declared.types.Offsets.{Offsets}
 use Rattle.account.specs.declared.types.State.{State}
 use Rattle.account.specs.declared.types.Trying.{Trying}
 use Rattle.account.specs.declared.types.Trying.the-variants.{Nothing, Running}
-use Rattle.account.specs.State.{choice}
-use Rattle.steps.specs.Booking.{Frame, at, offsetStep, f12, aged, gained, bookFrame, passed}
+use Rattle.account.specs.State.{noAccount, choice}
+use Rattle.account.specs.Price.{chanceAt}
+use Rattle.steps.specs.Booking.{Frame, at, clamp, f12, aged, gained, passed}
 pub use Rattle.steps.specs.declared.booking.Fade.{Fade}
 pub use Rattle.steps.specs.declared.booking.Marks.{Marks}
+pub use Rattle.steps.specs.declared.booking.Prior.{Prior}
+pub use Rattle.steps.specs.declared.booking.Rows.{Rows}
 pub use Rattle.steps.specs.declared.booking.Tally.{Tally}
 
 -- ---- "32-bit set": with one rung more; a number past 31 is no digit of it
@@ -43,15 +48,45 @@ fadeAt air time last = cond (lt f0 (last .time) && eq time (last .time)) last (r
 abbrev pub bookBy : Frame → ℕ → Float → Account → Account
 bookBy f r by a = cond (at r f) (gained f (aged (half (f1 ⊘ f12)) a)) (aged by a)
 
--- ---- offsets: "with SNR known"
-abbrev pub offsetsBy : Table → Reading → Frame → Offsets → Offsets
-offsetsBy t Missing f o = o
-offsetsBy t (Value snr) f o = offsetStep t snr f o
+-- n entries from i on, each what g gives there
+unfoldable pub fill : ℕ → ℕ → (ℕ → Float) → List Float → List Float
+fill zero i g l = l
+fill (suc n) i g l = fill n (suc i) g (set l i (g i))
+
+-- the factors of all rungs in use, by their frame times
+abbrev pub fadesFor : List Float → ℕ → Float → List Float
+fadesFor times count air = fill (min 32 count) 0 (λ i. factor air (getD times i f1)) (replicate 32 f0)
+
+-- a frame of the last one's air has its factors: the old ones where there is a last air, above 0, and it is the frame's
+abbrev pub fadesAt : List Float → ℕ → Float → Float → List Float → List Float
+fadesAt times count air last old = cond (lt f0 last && eq air last) old (fadesFor times count air)
+
+-- all accounts after a frame, n rungs from r on
+unfoldable pub booksBy : ℕ → ℕ → List Float → Frame → List Account → List Account
+booksBy zero r fades f accounts = accounts
+booksBy (suc n) r fades f accounts = booksBy n (suc r) fades f (set accounts r (bookBy f r (getD fades r f1) (getD accounts r noAccount)))
+
+-- ---- offsets: of the two, the frame's family's, by what the pass knows of the table
+abbrev pub movedBy : Prior → Float → Frame → Float → Float
+movedBy p snr f off = clamp (off ⊕ p .gain ⊗ (chanceAt (p .threshold) (p .margin) off snr ⊖ cond (f .decoded) f1 f0))
+
+abbrev pub familyBy : Prior → ℕ → Float → Frame → Offsets → Offsets
+familyBy p floors snr f o =
+    cond (f .combined) o (cond (ltb (f .rung .0) floors) (record { floor = movedBy p snr f (o .floor); ofdm = o .ofdm }) (record { floor = o .floor; ofdm = movedBy p snr f (o .ofdm) }))
+
+-- "with SNR known"
+abbrev pub offsetsBy : Prior → ℕ → Reading → Frame → Offsets → Offsets
+offsetsBy p floors Missing f o = o
+offsetsBy p floors (Value snr) f o = familyBy p floors snr f o
+
+-- a rung's 10 % point; outside the array 0
+abbrev pub thresholdAt : List Float → ℕ → Float
+thresholdAt thresholds r = getD thresholds r f0
 
 -- ---- marks
 -- "a list with OFDM frames sets the failed mark if none of them is decoded, else clears it": whether one was sent, and whether one was decoded
-abbrev pub markFamily : Table → Frame → Marks → Marks
-markFamily t f m = cond (isFloor t (f .rung .0)) m (record { ofdm = true; heard = m .heard || f .decoded; chosen = m .chosen; alone = m .alone })
+abbrev pub markFamily : ℕ → Frame → Marks → Marks
+markFamily floors f m = cond (ltb (f .rung .0) floors) m (record { ofdm = true; heard = m .heard || f .decoded; chosen = m .chosen; alone = m .alone })
 
 -- "some frame at the choice, and each of them decoded alone": whether one went there, and whether each did
 abbrev pub markChoice : ℕ → Frame → Marks → Marks
@@ -74,34 +109,65 @@ abbrev pub countOwn : Trying → Frame → ℕ → ℕ
 countOwn y f n = cond (isOwn y f) (cond (ltb n 3) (suc n) n) n
 
 -- ---- the pass
+-- what it reads of the rows
+unfoldable pub timesOf : Table → List Float
+timesOf t = map (λ (r : Row). r .time) (t .rows)
+
+unfoldable pub thresholdsOf : Table → List Float
+thresholdsOf t = map (λ (r : Row). r .threshold) (t .rows)
+
+abbrev pub readOf : Table → Rows
+readOf t = record { times = timesOf t; thresholds = thresholdsOf t }
+
 -- before the first frame; the state's SNR is smoothed already
 unfoldable pub beginTally : Table → State → Tally
 beginTally t s = record {
-  table = t;
+  times = timesOf t;
+  margin = t .margin;
+  thresholds = thresholdsOf t;
+  gain = t .gain;
+  fades = replicate 32 f0;
+  faded = f0;
   snr = s .snr;
-  here = rung (choice t s);
   trying = s .trying;
+  here = rung (choice t s);
+  count = t .count;
+  floors = t .floors;
+  sent = 0;
   accounts = s .accounts;
   offsets = s .offsets;
   air = f0;
-  sent = 0;
-  marks = record { ofdm = false; heard = false; chosen = false; alone = true };
   own = 0;
+  marks = record { ofdm = false; heard = false; chosen = false; alone = true };
 }
+
+-- what moves the offsets at a rung, and the factors for a frame
+abbrev pub priorAt : Tally → ℕ → Prior
+priorAt y r = record { threshold = thresholdAt (y .thresholds) r; margin = y .margin; gain = y .gain }
+
+abbrev pub fadesOf : Tally → Frame → List Float
+fadesOf y f = fadesAt (y .times) (y .count) (f .air) (y .faded) (y .fades)
 
 -- one frame
 unfoldable pub bookStep : Tally → Frame → Tally
 bookStep y f = record {
-  table = y .table;
+  times = y .times;
+  margin = y .margin;
+  thresholds = y .thresholds;
+  gain = y .gain;
+  fades = fadesOf y f;
+  faded = f .air;
   snr = y .snr;
-  here = y .here;
   trying = y .trying;
-  accounts = bookFrame (rungsOf (y .table)) 0 (y .table) f (y .accounts);
-  offsets = offsetsBy (y .table) (y .snr) f (y .offsets);
-  air = y .air ⊕ f .air;
+  here = y .here;
+  count = y .count;
+  floors = y .floors;
   sent = addRung (y .sent) (f .rung .0);
-  marks = markChoice (y .here .0) f (markFamily (y .table) f (y .marks));
+  accounts = booksBy (min 32 (y .count)) 0 (fadesOf y f) f (y .accounts);
+  offsets = offsetsBy (priorAt y (f .rung .0)) (y .floors) (y .snr) f (y .offsets);
+  air = y .air ⊕ f .air;
   own = countOwn (y .trying) f (y .own);
+  marks = markChoice (y .here .0) f (markFamily (y .floors) f (y .marks));
 }
 
 -- all of them, in order

@@ -3,16 +3,16 @@ ghost use mathlib.Core.Path.{_≡_};
 ghost use mathlib.Core.Bool.{_&&_, cond};
 ghost use lib.Ieee.{lt, eq};
 ghost use Rattle.float.specs.Numbers.{f0, f1};
-ghost use Rattle.ladder.specs.Types.{rungsOf, placesOf};
-ghost use Rattle.steps.specs.Booking.{clamp, moved, offsetStep, aged, gained, bookFrame, passed};
-ghost use Rattle.steps.specs.Tally.{addRung, fadeAt, bookBy, offsetsBy, markFamily, markChoice, familyMark, choiceMark, isOwn, countOwn, beginTally, bookStep, bookAll, finishBooking};
+ghost use Prim.Native.Nat.{min};
+ghost use Rattle.ladder.specs.Types.{placesOf};
+ghost use Rattle.steps.specs.Booking.{clamp, aged, gained, passed};
+ghost use Rattle.steps.specs.Tally.{addRung, movedBy, familyBy, offsetsBy, fadeAt, fadesFor, fadesAt, bookBy, booksBy, thresholdAt, readOf, markFamily, markChoice, familyMark, choiceMark, isOwn, countOwn, beginTally, bookStep, bookAll, finishBooking};
 use crate::types::Frame;
 use account::types::Account;
 use account::types::Mark;
 use account::types::Offsets;
 use account::types::State;
 use account::types::Trying;
-use ladder::types::Place;
 use ladder::types::Reading;
 use ladder::types::Rung;
 use ladder::types::Table;
@@ -45,19 +45,40 @@ pub struct Marks {
     pub alone: bool,
 }
 
-// What one pass over a transmission's frames needs (table, smoothed SNR, the choice's rung, the running try) and gathers: accounts, offsets, the
-// call's air, the set of rungs sent, the marks, and the try's own frames, up to 3.
+// What moves an offset at a rung: the rung's 10 % point, and the table's margin and gain.
+pub struct Prior {
+    pub threshold: f64,
+    pub margin: f64,
+    pub gain: f64,
+}
+
+// What a pass reads of a table's rows.
+pub struct Rows {
+    pub times: [f64; 32],
+    pub thresholds: [f64; 32],
+}
+
+// What one pass over a transmission's frames needs (of the table, smoothed SNR, the running try, the choice's rung) and gathers: the set of rungs
+// sent, accounts, offsets, the call's air, the try's own frames, up to 3, and the marks. `fades` are the factors for a frame of the air `faded`; an
+// air of 0.0: there are none yet. A number between two arrays has the compiler copy only the arrays that a frame changes.
 pub struct Tally {
-    pub table: Table,
+    pub times: [f64; 32],
+    pub margin: f64,
+    pub thresholds: [f64; 32],
+    pub gain: f64,
+    pub fades: [f64; 32],
+    pub faded: f64,
     pub snr: Reading,
-    pub here: Rung,
     pub trying: Trying,
+    pub here: Rung,
+    pub count: u32,
+    pub floors: u32,
+    pub sent: u32,
     pub accounts: [Account; 32],
     pub offsets: Offsets,
     pub air: f64,
-    pub sent: u32,
-    pub marks: Marks,
     pub own: u32,
+    pub marks: Marks,
 }
 
 // ---- offsets
@@ -82,42 +103,52 @@ fn hit(decoded: bool) -> f64
 }
 
 // An offset after a frame of its family: moved by the gain times the surprise.
-pub fn move_offset(t: Table, snr: f64, f: Frame, off: f64) -> f64
-    ensures { λ z. ⌜ z ≡ moved t snr f off ⌝ }
+pub fn move_offset(p: Prior, snr: f64, f: Frame, off: f64) -> f64
+    ensures { λ z. ⌜ z ≡ movedBy p snr f off ⌝ }
 {
-    let r = f.rung;
-    let p = account::price::chance_of(t, r, off, snr);
-    clamp_offset(off + t.gain * (p - hit(f.decoded)))
+    let c = account::price::chance_at(p.threshold, p.margin, off, snr);
+    clamp_offset(off + p.gain * (c - hit(f.decoded)))
 }
 
 // Both offsets after a frame, at a known SNR.
-pub fn move_family(t: Table, snr: f64, f: Frame, o: Offsets) -> Offsets
-    ensures { λ z. ⌜ z ≡ offsetStep t snr f o ⌝ }
+pub fn move_family(p: Prior, floors: u32, snr: f64, f: Frame, o: Offsets) -> Offsets
+    ensures { λ z. ⌜ z ≡ familyBy p floors snr f o ⌝ }
 {
     if f.combined {
         return o;
     }
     let r = f.rung;
-    if ladder::read::is_floor(t, r) {
+    if r.0 < floors {
         return Offsets {
-            floor: move_offset(t, snr, f, o.floor),
+            floor: move_offset(p, snr, f, o.floor),
             ofdm: o.ofdm,
         };
     }
     Offsets {
         floor: o.floor,
-        ofdm: move_offset(t, snr, f, o.ofdm),
+        ofdm: move_offset(p, snr, f, o.ofdm),
     }
 }
 
 // Both offsets after a frame.
-pub fn move_offsets(t: Table, snr: Reading, f: Frame, o: Offsets) -> Offsets
-    ensures { λ z. ⌜ z ≡ offsetsBy t snr f o ⌝ }
+pub fn move_offsets(p: Prior, floors: u32, snr: Reading, f: Frame, o: Offsets) -> Offsets
+    ensures { λ z. ⌜ z ≡ offsetsBy p floors snr f o ⌝ }
 {
     match snr {
         Reading::Missing => o,
-        Reading::Value(x) => move_family(t, x, f, o),
+        Reading::Value(x) => move_family(p, floors, x, f, o),
     }
+}
+
+// A rung's 10 % point; outside the array 0.
+pub fn threshold_at(thresholds: [f64; 32], r: Rung) -> f64
+    ensures { λ z. ⌜ z ≡ thresholdAt thresholds (r .0) ⌝ }
+{
+    if r.0 < 32 {
+        let at = r.0 as usize;
+        return thresholds[at];
+    }
+    0.0
 }
 
 // ---- accounts
@@ -183,19 +214,50 @@ pub fn book_account(f: Frame, r: Rung, by: f64, a: Account) -> Account
     age_account(by, a)
 }
 
-// All accounts after a frame. The factor is computed anew only where the frame time differs from the rung's before.
-pub fn book_accounts(t: Table, f: Frame, old: [Account; 32]) -> [Account; 32]
-    ensures { λ z. ⌜ z ≡ bookFrame (rungsOf t) 0 t f old ⌝ }
+// How many rungs are in use, of a table's count.
+fn rungs_in(count: u32) -> u32
+    ensures { λ n. ⌜ n ≡ min 32 count ⌝ }
 {
-    let mut accounts = old;
+    if count < 32 { count } else { 32 }
+}
+
+// The factors of all rungs in use, for a frame's air. One is computed anew only where the frame time differs from the rung's before.
+pub fn fades_for(times: [f64; 32], count: u32, air: f64) -> [f64; 32]
+    ensures { λ z. ⌜ z ≡ fadesFor times count air ⌝ }
+{
+    let mut fades = [0.0f64; 32];
     let mut fade = Fade { time: 0.0, by: 1.0 };
-    let rungs = ladder::read::rungs_of(t);
+    let rungs = rungs_in(count);
     let mut i: u32 = 0;
     while i < rungs {
         let at = i as usize;
-        let row = t.rows[at];
-        fade = fade_for(f.air, row.time, fade);
-        accounts[at] = book_account(f, Rung(i), fade.by, accounts[at]);
+        fade = fade_for(air, times[at], fade);
+        fades[at] = fade.by;
+        i += 1;
+    }
+    fades
+}
+
+// The factors for a frame's air: the old ones where it is the air that they are for.
+pub fn fades_at(times: [f64; 32], count: u32, air: f64, last: f64, old: [f64; 32]) -> [f64; 32]
+    ensures { λ z. ⌜ z ≡ fadesAt times count air last old ⌝ }
+{
+    if is_same(air, last) {
+        return old;
+    }
+    fades_for(times, count, air)
+}
+
+// All accounts after a frame, by the factors of its air.
+pub fn book_accounts(fades: [f64; 32], count: u32, f: Frame, old: [Account; 32]) -> [Account; 32]
+    ensures { λ z. ⌜ z ≡ booksBy (min 32 count) 0 fades f old ⌝ }
+{
+    let mut accounts = old;
+    let rungs = rungs_in(count);
+    let mut i: u32 = 0;
+    while i < rungs {
+        let at = i as usize;
+        accounts[at] = book_account(f, Rung(i), fades[at], accounts[at]);
         i += 1;
     }
     accounts
@@ -214,11 +276,11 @@ pub fn add_rung(set: u32, r: Rung) -> u32
 
 // ---- marks
 // The marks after a frame, as far as its family goes.
-pub fn mark_family(t: Table, f: Frame, m: Marks) -> Marks
-    ensures { λ z. ⌜ z ≡ markFamily t f m ⌝ }
+pub fn mark_family(floors: u32, f: Frame, m: Marks) -> Marks
+    ensures { λ z. ⌜ z ≡ markFamily floors f m ⌝ }
 {
     let r = f.rung;
-    if ladder::read::is_floor(t, r) {
+    if r.0 < floors {
         return m;
     }
     Marks {
@@ -289,6 +351,23 @@ pub fn count_own(y: Trying, f: Frame, n: u32) -> u32
 }
 
 // ---- the pass
+// The frame times and thresholds of a table.
+fn read_rows(t: Table) -> Rows
+    ensures { λ z. ⌜ z ≡ readOf t ⌝ }
+{
+    let rows = t.rows;
+    let mut times = [0.0f64; 32];
+    let mut thresholds = [0.0f64; 32];
+    let mut i: usize = 0;
+    while i < 32 {
+        let row = rows[i];
+        times[i] = row.time;
+        thresholds[i] = row.threshold;
+        i += 1;
+    }
+    Rows { times, thresholds }
+}
+
 // What a pass begins with, at a state whose SNR is smoothed already.
 pub fn begin_tally(t: Table, s: State) -> Tally
     ensures { λ z. ⌜ z ≡ beginTally t s ⌝ }
@@ -298,6 +377,10 @@ pub fn begin_tally(t: Table, s: State) -> Tally
     let trying = s.trying;
     let accounts = s.accounts;
     let offsets = s.offsets;
+    let rows = read_rows(t);
+    let times = rows.times;
+    let thresholds = rows.thresholds;
+    let fades = [0.0f64; 32];
     let marks = Marks {
         ofdm: false,
         heard: false,
@@ -305,16 +388,23 @@ pub fn begin_tally(t: Table, s: State) -> Tally
         alone: true,
     };
     Tally {
-        table: t,
+        times,
+        margin: t.margin,
+        thresholds,
+        gain: t.gain,
+        fades,
+        faded: 0.0,
         snr,
-        here,
         trying,
+        here,
+        count: t.count,
+        floors: t.floors,
+        sent: 0,
         accounts,
         offsets,
         air: 0.0,
-        sent: 0,
-        marks,
         own: 0,
+        marks,
     }
 }
 
@@ -322,24 +412,34 @@ pub fn begin_tally(t: Table, s: State) -> Tally
 pub fn book(t: Tally, f: Frame) -> Tally
     ensures { λ z. ⌜ z ≡ bookStep t f ⌝ }
 {
-    let table = t.table;
     let snr = t.snr;
     let here = t.here;
     let trying = t.trying;
     let rung = f.rung;
+    let times = t.times;
+    let kept = t.fades;
+    let fades = fades_at(times, t.count, f.air, t.faded, kept);
     let booked = t.accounts;
-    let accounts = book_accounts(table, f, booked);
+    let accounts = book_accounts(fades, t.count, f, booked);
+    let thresholds = t.thresholds;
+    let prior = Prior {
+        threshold: threshold_at(thresholds, rung),
+        margin: t.margin,
+        gain: t.gain,
+    };
     let read = t.offsets;
-    let offsets = move_offsets(table, snr, f, read);
+    let offsets = move_offsets(prior, t.floors, snr, f, read);
     let marked = t.marks;
-    let marks = mark_choice(here, f, mark_family(table, f, marked));
+    let marks = mark_choice(here, f, mark_family(t.floors, f, marked));
     let mut y = t;
+    y.fades = fades;
+    y.faded = f.air;
+    y.sent = add_rung(t.sent, rung);
     y.accounts = accounts;
     y.offsets = offsets;
     y.air = t.air + f.air;
-    y.sent = add_rung(t.sent, rung);
-    y.marks = marks;
     y.own = count_own(trying, f, t.own);
+    y.marks = marks;
     y
 }
 
@@ -362,10 +462,12 @@ pub fn pass_times(t: Table, since: [f64; 32], air: f64) -> [f64; 32]
     ensures { λ z. ⌜ z ≡ passed (placesOf t) 0 t air since ⌝ }
 {
     let mut times = since;
+    let front = t.front;
     let places = ladder::read::places_of(t);
     let mut i: u32 = 0;
     while i < places {
-        let r = ladder::read::rung_at(t, Place(i));
+        let place = i as usize;
+        let r = front[place];
         if r.0 < 32 {
             let at = r.0 as usize;
             times[at] = times[at] + air;

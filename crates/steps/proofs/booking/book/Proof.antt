@@ -5,8 +5,14 @@ use borrow.Author.Needs.{needs}
 use Rattle.steps.proofs.booking.book.Statement.{statement}
 use Rattle.steps.proofs.booking.book.Tie as tie
 
+fades-at-requires : tie.Need-fades-at-requires
+fades-at-requires c κs = search needs
+
 book-accounts-requires : tie.Need-book-accounts-requires
 book-accounts-requires c κs = search needs
+
+threshold-at-requires : tie.Need-threshold-at-requires
+threshold-at-requires c κs = search needs
 
 move-offsets-requires : tie.Need-move-offsets-requires
 move-offsets-requires c κs = search needs
@@ -25,13 +31,19 @@ count-own-requires c κs = search needs
 
 returns : tie.Need-returns
 unfolding bookStep
-returns c = rw (c .count-own .ensures, c .before .add-rung .ensures, c .before .before .before .before .mark-choice .ensures, c .before .before .before .before .before .mark-family .ensures, c .before .before .before .before .before .before .before .move-offsets .ensures, c .before .before .before .before .before .before .before .before .before .book-accounts .ensures) refl
+returns c =
+    let marked = c .before .before .before .before in
+    let moved = marked .before .before .before in
+    let booked = moved .before .before .before .before in
+    rw (c .count-own .ensures, c .before .before .before .add-rung .ensures, marked .mark-choice .ensures, marked .before .mark-family .ensures, moved .move-offsets .ensures, moved .before .before .threshold-at .ensures, booked .book-accounts .ensures, booked .before .before .fades-at .ensures) refl
 
 pub book-spec : {M : Type 1} → statement M
 book-spec =
     tie.close
     (tie.spec
+    fades-at-requires
     book-accounts-requires
+    threshold-at-requires
     move-offsets-requires
     mark-family-requires
     mark-choice-requires
