@@ -2,7 +2,8 @@
 ghost use mathlib.Core.Path.{_≡_};
 ghost use mathlib.Core.Bool.{cond};
 ghost use lib.ListN.{getD};
-ghost use Rattle.account.specs.Price.{chanceAt, chance, priorOf, estimateOf, estimateAt, lossless, control, burstOr, overheadOf, pricedOf, priced, value, losslessPrice, fullAir, waitSeconds, termsOf, knownOf, knownBy, rateOf};
+ghost use Rattle.float.specs.Numbers.{_⊗_, _⊘_, ofNat};
+ghost use Rattle.account.specs.Price.{chanceAt, chance, priorOf, estimateOf, estimateAt, lossless, control, burstOr, overheadOf, pricedOf, priced, value, fullAir, waitSeconds, termsOf, knownOf, knownBy, rateOf};
 use crate::types::Account;
 use crate::types::Families;
 use crate::types::Known;
@@ -86,9 +87,10 @@ pub fn lossless_of(t: Table, r: Rung) -> f64
 pub fn burst_at(p: Tariff, r: Rung) -> u32
     ensures { λ x. ⌜ x ≡ getD (p .bursts) (r .0) 0 ⌝ }
 {
+    let bursts = p.bursts;
     if r.0 < 32 {
         let i = r.0 as usize;
-        p.bursts[i]
+        bursts[i]
     } else {
         0
     }
@@ -132,25 +134,6 @@ pub fn priced_of(given: bool, n: u32, time: f64, over: f64, x: f64) -> f64
     x
 }
 
-// The same of a rung.
-pub fn priced_at(t: Table, p: Prices, r: Rung, x: f64) -> f64
-    ensures { λ y. ⌜ y ≡ priced t p (r .0) x ⌝ }
-{
-    let row = ladder::read::row_of(t, r);
-    let tariff = p.tariff;
-    let families = p.families;
-    let n = burst_or(tariff, r, 0);
-    let over = overhead_of(tariff, families, r.0 < t.floors);
-    priced_of(tariff.given, n, row.time, over, x)
-}
-
-// The most that a rung could be worth: `lossless` priced.
-pub fn lossless_price(t: Table, p: Prices, r: Rung) -> f64
-    ensures { λ x. ⌜ x ≡ losslessPrice t p (r .0) ⌝ }
-{
-    priced_at(t, p, r, lossless_of(t, r))
-}
-
 // ---- value: what is read is read once
 // What the values at an SNR are read by.
 pub fn terms_of(t: Table, p: Prices, s: State, snr: Reading) -> Terms
@@ -189,7 +172,20 @@ pub fn known_of(t: Table, p: Prices, s: State, r: Rung) -> Known
     let tariff = p.tariff;
     let n = burst_or(tariff, r, 0);
     let i = (r.0 % 32) as usize;
-    known_by(r, t.rows[i], s.accounts[i], n, t.floors)
+    let rows = t.rows;
+    let accounts = s.accounts;
+    known_by(r, rows[i], accounts[i], n, t.floors)
+}
+
+// A rate priced.
+pub fn priced_by(m: Terms, k: Known, x: f64) -> f64
+    ensures { λ y. ⌜ y ≡ pricedOf (m .tariff .given) (k .burst) (k .row .time) (overheadOf (m .tariff) (m .families) (k .floor)) x ⌝ }
+{
+    let row = k.row;
+    let tariff = m.tariff;
+    let families = m.families;
+    let over = overhead_of(tariff, families, k.floor);
+    priced_of(tariff.given, k.burst, row.time, over, x)
 }
 
 // The estimate priced.
@@ -200,13 +196,17 @@ pub fn rate(m: Terms, k: Known) -> f64
     let a = k.account;
     let offsets = m.offsets;
     let snr = m.snr;
-    let tariff = m.tariff;
-    let families = m.families;
     let off = family_offset(k.floor, offsets);
     let prior = prior_of(row, m.margin, off, snr);
-    let x = estimate_of(a, prior, row.time);
-    let over = overhead_of(tariff, families, k.floor);
-    priced_of(tariff.given, k.burst, row.time, over, x)
+    priced_by(m, k, estimate_of(a, prior, row.time))
+}
+
+// The most that a rung could be worth: `lossless` priced.
+pub fn lossless_rate(m: Terms, k: Known) -> f64
+    ensures { λ x. ⌜ x ≡ pricedOf (m .tariff .given) (k .burst) (k .row .time) (overheadOf (m .tariff) (m .families) (k .floor)) (ofNat (k .row .capacity) ⊘ k .row .time) ⌝ }
+{
+    let row = k.row;
+    priced_by(m, k, row.capacity as f64 / row.time)
 }
 
 // A rung's estimate at an SNR, priced.
@@ -225,13 +225,20 @@ pub fn value_of(t: Table, p: Prices, s: State, r: Rung) -> f64
 }
 
 // ---- air and wait
-// The air of a full transmission at a rung: one frame where its burst count is absent.
+// The air of a full transmission at a rung, of its frame time: one frame where its burst count is absent.
+pub fn burst_air(p: Tariff, r: Rung, time: f64) -> f64
+    ensures { λ x. ⌜ x ≡ ofNat (burstOr p (r .0) 1) ⊗ time ⌝ }
+{
+    let n = burst_or(p, r, 1);
+    n as f64 * time
+}
+
+// The same, its frame time read.
 pub fn full_air(t: Table, p: Tariff, r: Rung) -> f64
     ensures { λ x. ⌜ x ≡ fullAir t p (r .0) ⌝ }
 {
     let row = ladder::read::row_of(t, r);
-    let n = burst_or(p, r, 1);
-    n as f64 * row.time
+    burst_air(p, r, row.time)
 }
 
 // A rung's wait in seconds of air.

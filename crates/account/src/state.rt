@@ -24,9 +24,10 @@ pub const PROBE_EVERY: u32 = 6;
 pub fn account_of(s: State, r: Rung) -> Account
     ensures { λ x. ⌜ x ≡ account s (r .0) ⌝ }
 {
+    let accounts = s.accounts;
     if r.0 < 32 {
         let i = r.0 as usize;
-        s.accounts[i]
+        accounts[i]
     } else {
         Account {
             bytes: 0.0,

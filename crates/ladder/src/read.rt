@@ -9,13 +9,15 @@ use crate::types::Row;
 use crate::types::Rung;
 use crate::types::Table;
 
-// A rung's row; outside the array capacity 0, frame time 1.0 and no limit.
+// A rung's row; outside the array capacity 0, frame time 1.0 and no limit. (Of a table by value only the part that is indexed is copied, so that part is taken
+// out first, here and below.)
 pub fn row_of(t: Table, r: Rung) -> Row
     ensures { λ x. ⌜ x ≡ row t (r .0) ⌝ }
 {
+    let rows = t.rows;
     if r.0 < 32 {
         let i = r.0 as usize;
-        t.rows[i]
+        rows[i]
     } else {
         Row {
             threshold: 0.0,
@@ -44,7 +46,7 @@ pub fn row_or(r: Rung, row: Row) -> Row
     }
 }
 
-// The rung at a place; outside the array rung 0. (Of a table by value only the part that is indexed is copied, so the front is taken out first.)
+// The rung at a place; outside the array rung 0.
 pub fn rung_at(t: Table, p: Place) -> Rung
     ensures { λ x. ⌜ x .0 ≡ rungAt t (p .0) ⌝ }
 {

@@ -1,4 +1,5 @@
--- A walk over places by `greatest`: its start, one turn, its end, and that places past 31, none of which is allowed, need no walk. Assumes nothing.
+-- A walk over places by `greatest`: its start, one turn, its end, that what it finds has the value of its place, and that places past 31, none of which is
+-- allowed, need no walk. Assumes nothing.
 use mathlib.Core.Path.{_≡_, refl, sym, ap, _∙_}
 use mathlib.Core.Bool.{Bool, true, false, _&&_, cond}
 use Prim.Native.Nat.{ℕ, zero, suc, _+_, _-_, _<_, _≤_, min}
@@ -12,7 +13,8 @@ use Rattle.ladder.specs.Types.{place, rungAt}
 use Rattle.account.specs.declared.types.Prices.{Prices}
 use Rattle.account.specs.declared.types.State.{State}
 use Rattle.account.specs.Price.{value}
-use Rattle.steps.specs.Echo.{Best, Found, beats, greatest, improved}
+use Rattle.ladder.proofs.Cases.{pick}
+use Rattle.steps.specs.Echo.{Best, NoneYet, Found, beats, greatest, improved}
 
 -- the value of the rung at a place
 abbrev pub worth : Table → Prices → State → ℕ → Float
@@ -32,6 +34,16 @@ module _ (A : ℕ → Bool) (W : ℕ → Float) where
   pub done : (n i : ℕ) (b : Best) → n ≤ i → b ≡ greatest (n - i) i A W b
   unfolding greatest
   done n i b h = let e : n - i ≡ 0 = omega arith in sym (ap (λ (k : ℕ). greatest k i A W b) e)
+
+  -- what is found has the value of its place
+  abbrev pub Valued : Best → Type 0
+  Valued NoneYet = Unit
+  Valued (Found j x) = x ≡ W (j .0)
+
+  pub keeps : (n i : ℕ) (b : Best) → Valued b → Valued (greatest n i A W b)
+  unfolding greatest
+  keeps zero i b h = h
+  keeps (suc n) i b h = keeps n (suc i) (improved A W i b) (pick Valued (A i && beats (W i) b) refl h)
 
   module _ (far : (j : ℕ) → 32 ≤ j → A j ≡ false) where
     idle : (n i : ℕ) (b : Best) → 32 ≤ i → greatest n i A W b ≡ b

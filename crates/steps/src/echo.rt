@@ -280,34 +280,17 @@ pub fn seed(t: Table, p: Prices, s: State, snr: f64) -> State
 }
 
 // ---- `refuses`
-// Whether the rung of a place is OFDM.
-fn is_ofdm_at(t: Table, i: u32) -> bool
-    ensures { λ b. ⌜ b ≡ ofdmAt t i ⌝ }
-{
-    let r = ladder::read::rung_at(t, Place(i));
-    !ladder::read::is_floor(t, r)
-}
-
-// Whether the rung of a place is OFDM and not out.
-fn is_ofdm_in(t: Table, s: State, i: u32) -> bool
-    ensures { λ b. ⌜ b ≡ (ofdmAt t i && not (out t s (rungAt t i))) ⌝ }
-{
-    if is_ofdm_at(t, i) {
-        let r = ladder::read::rung_at(t, Place(i));
-        !out_at(t, s, r)
-    } else {
-        false
-    }
-}
-
 // Whether the front has OFDM rungs.
 fn has_ofdm(t: Table) -> bool
     ensures { λ b. ⌜ b ≡ someFrom (placesOf t) 0 (ofdmAt t) ⌝ }
 {
+    let front = t.front;
     let places = ladder::read::places_of(t);
     let mut i: u32 = 0;
     while i < places {
-        if is_ofdm_at(t, i) {
+        let at = i as usize;
+        let r = front[at];
+        if !ladder::read::is_floor(t, r) {
             return true;
         }
         i += 1;
@@ -315,14 +298,27 @@ fn has_ofdm(t: Table) -> bool
     false
 }
 
+// Whether a rung is OFDM and not out.
+fn is_ofdm_in(t: Table, s: State, r: Rung) -> bool
+    ensures { λ b. ⌜ b ≡ (not (isFloor t (r .0)) && not (out t s (r .0))) ⌝ }
+{
+    if ladder::read::is_floor(t, r) {
+        return false;
+    }
+    !out_at(t, s, r)
+}
+
 // Whether the front has OFDM rungs that are not out.
 fn has_ofdm_in(t: Table, s: State) -> bool
     ensures { λ b. ⌜ b ≡ someFrom (placesOf t) 0 (λ i. ofdmAt t i && not (out t s (rungAt t i))) ⌝ }
 {
+    let front = t.front;
     let places = ladder::read::places_of(t);
     let mut i: u32 = 0;
     while i < places {
-        if is_ofdm_in(t, s, i) {
+        let at = i as usize;
+        let r = front[at];
+        if is_ofdm_in(t, s, r) {
             return true;
         }
         i += 1;
@@ -334,10 +330,10 @@ fn has_ofdm_in(t: Table, s: State) -> bool
 fn is_all_out(t: Table, s: State) -> bool
     ensures { λ b. ⌜ b ≡ allOut t s ⌝ }
 {
-    if has_ofdm(t) {
-        !has_ofdm_in(t, s)
-    } else {
+    if has_ofdm_in(t, s) {
         false
+    } else {
+        has_ofdm(t)
     }
 }
 

@@ -2,14 +2,15 @@
 ghost use mathlib.Core.Path.{_≡_};
 ghost use mathlib.Core.Bool.{cond, _&&_, _||_, Bool·beq};
 ghost use Prim.Native.Nat.{suc, _*_, min};
-ghost use lib.Dec.{eqb};
-ghost use lib.Ieee.{lt};
+ghost use lib.Dec.{eqb, ltb};
+ghost use lib.Ieee.{le, lt};
+ghost use Rattle.float.specs.Numbers.{_⊖_, _⊗_, ofNat, f0};
 ghost use Rattle.ladder.specs.Types.{placesOf, isFloor};
 ghost use Rattle.account.specs.declared.types.Trying.the-variants.{Nothing, Running};
-ghost use Rattle.account.specs.State.{choice, withTrying};
-ghost use Rattle.account.specs.Price.{value, losslessPrice, rateOf};
+ghost use Rattle.account.specs.State.{timeOf, waitOf, choice, withTime, withWait, withTrying};
+ghost use Rattle.account.specs.Price.{burstOr, value, losslessPrice, knownOf, rateOf};
 ghost use Rattle.steps.specs.Echo.{Found, usable, beats};
-ghost use Rattle.steps.specs.Tries.{better, judgeTry, placeFrom, fullWait, won, endTry, counted, still, candidateOf, choose, due, isOn, cleanClimb, above, begins, begin, decideTry, decide};
+ghost use Rattle.steps.specs.Tries.{better, judgeTry, placeFrom, fullWait, won, endTry, counted, still, candidateOf, choose, nano, due, isOn, cleanClimb, above, begins, begin, decideTry, decide};
 use crate::types::Best;
 use crate::types::Decided;
 use account::types::Known;
@@ -34,8 +35,10 @@ pub fn is_better(t: Table, p: Prices, s: State, r: Rung) -> bool
     ensures { λ b. ⌜ b ≡ better t p s (r .0) ⌝ }
 {
     let here = account::state::choice_of(t, s);
-    let v = account::price::value_of(t, p, s, r);
-    v > account::price::value_of(t, p, s, here)
+    let snr = s.snr;
+    let m = account::price::terms_of(t, p, s, snr);
+    let v = account::price::rate(m, account::price::known_of(t, p, s, r));
+    v > account::price::rate(m, account::price::known_of(t, p, s, here))
 }
 
 // Twice the wait, at most the longest: not computed where it could wrap.
@@ -45,11 +48,11 @@ fn longer(w: u32) -> u32
     if w < 24 { 2 * w } else { PROBE_WAIT_MAX }
 }
 
-// What frames at a rung said of it: better than the choice, or its next try waits twice as long.
-pub fn judge_try(t: Table, p: Prices, s: State, r: Rung) -> State
-    ensures { λ z. ⌜ z ≡ judgeTry t p s (r .0) ⌝ }
+// What frames at a rung said of it: it is better than the choice, or its next try waits twice as long.
+fn judge_by(s: State, r: Rung, better: bool) -> State
+    ensures { λ z. ⌜ z ≡ cond better (withWait s (r .0) 6) (withTime (withWait s (r .0) (min 48 (2 * waitOf s (r .0)))) (r .0) f0) ⌝ }
 {
-    if is_better(t, p, s, r) {
+    if better {
         account::state::with_wait(s, r, account::state::PROBE_EVERY)
     } else {
         let w = longer(account::state::wait_of(s, r));
@@ -57,13 +60,20 @@ pub fn judge_try(t: Table, p: Prices, s: State, r: Rung) -> State
     }
 }
 
-// ---- the place above: past the places none is usable, so the sum is made only where it cannot wrap
-fn is_above_usable(t: Table, s: State) -> bool
-    ensures { λ b. ⌜ b ≡ usable t s (suc (s .place .0)) ⌝ }
+// The same, where it is not known yet which.
+pub fn judge_try(t: Table, p: Prices, s: State, r: Rung) -> State
+    ensures { λ z. ⌜ z ≡ judgeTry t p s (r .0) ⌝ }
+{
+    judge_by(s, r, is_better(t, p, s, r))
+}
+
+// ---- the place above: no place is past 31, so the sum is made only where it cannot wrap
+fn has_above(t: Table, s: State) -> bool
+    ensures { λ b. ⌜ b ≡ ltb (suc (s .place .0)) (placesOf t) ⌝ }
 {
     let here = s.place;
     if here.0 < 32 {
-        crate::echo::is_usable(t, s, Place(here.0 + 1))
+        here.0 + 1 < ladder::read::places_of(t)
     } else {
         false
     }
@@ -77,6 +87,17 @@ fn rung_above(t: Table, s: State) -> Rung
         ladder::read::rung_at(t, Place(here.0 + 1))
     } else {
         Rung(0)
+    }
+}
+
+fn is_above_usable(t: Table, s: State) -> bool
+    ensures { λ b. ⌜ b ≡ usable t s (suc (s .place .0)) ⌝ }
+{
+    if has_above(t, s) {
+        let up = rung_above(t, s);
+        !crate::echo::out_at(t, s, up)
+    } else {
+        false
     }
 }
 
@@ -129,11 +150,10 @@ pub fn end_try(t: Table, p: Prices, s: State, r: Rung, frames: u64) -> State
     if frames == 0 {
         return s;
     }
-    let judged = judge_try(t, p, s, r);
     if is_better(t, p, s, r) {
-        win(t, p, judged, r)
+        win(t, p, judge_by(s, r, true), r)
     } else {
-        judged
+        judge_by(s, r, false)
     }
 }
 
@@ -200,28 +220,33 @@ pub fn choose_place(t: Table, p: Prices, s: State) -> Best
     let echo = s.echo;
     let here = s.place;
     let places = ladder::read::places_of(t);
+    let front = t.front;
+    let rows = t.rows;
     let mut best = Best::NoneYet;
     let mut i: u32 = 0;
     while i < places {
         let at = i as usize;
-        let r = t.front[at];
+        let r = front[at];
         let tariff = p.tariff;
         let n = account::price::burst_or(tariff, r, 0);
         let k = (r.0 % 32) as usize;
-        let known = account::price::known_by(r, t.rows[k], s.accounts[k], n, t.floors);
+        let known = account::price::known_by(r, rows[k], s.accounts[k], n, t.floors);
         best = improve(terms, known, echo, here, Place(i), best);
         i += 1;
     }
     best
 }
 
-// ---- `decide`: whether a try begins
-fn is_due(t: Table, p: Prices, s: State, r: Rung) -> bool
-    ensures { λ b. ⌜ b ≡ due t p s (r .0) ⌝ }
+// ---- `decide`: whether a try begins, from what is known of the rung above and the choice's value v, each read once
+fn is_due(p: Prices, s: State, r: Rung, k: Known) -> bool
+    ensures { λ b. ⌜ b ≡ le (ofNat (waitOf s (r .0)) ⊗ (ofNat (burstOr (p .tariff) (r .0) 1) ⊗ k .row .time) ⊖ nano) (timeOf s (r .0)) ⌝ }
 {
     let tariff = p.tariff;
+    let row = k.row;
+    let w = account::state::wait_of(s, r);
+    let air = account::price::burst_air(tariff, r, row.time);
     let time = account::state::time_of(s, r);
-    time >= account::price::wait_seconds(t, tariff, s, r) - WAIT_TOLERANCE_S
+    time >= w as f64 * air - WAIT_TOLERANCE_S
 }
 
 fn is_on(m: Mark, r: Rung) -> bool
@@ -242,15 +267,15 @@ fn same_family(t: Table, a: Rung, b: Rung) -> bool
 }
 
 // Whether the rung above is tried without its wait.
-fn is_clean_climb(t: Table, p: Prices, s: State, r: Rung) -> bool
-    ensures { λ b. ⌜ b ≡ cleanClimb t p s (r .0) ⌝ }
+fn is_clean_climb(t: Table, m: Terms, s: State, r: Rung, k: Known, v: f64) -> bool
+    ensures { λ b. ⌜ b ≡ (isOn (s .clean) (choice t s) && Bool·beq (isFloor t (r .0)) (isFloor t (choice t s)) && eqb (waitOf s (r .0)) 6 && lt v (rateOf m k)) ⌝ }
 {
     let here = account::state::choice_of(t, s);
     let mark = s.clean;
     if is_on(mark, here) {
         if same_family(t, r, here) {
             if account::state::wait_of(s, r) == account::state::PROBE_EVERY {
-                return is_better(t, p, s, r);
+                return account::price::rate(m, k) > v;
             }
             return false;
         }
@@ -260,28 +285,37 @@ fn is_clean_climb(t: Table, p: Prices, s: State, r: Rung) -> bool
 }
 
 // Whether a rung above that is usable is tried.
-fn is_worth_trying(t: Table, p: Prices, s: State, up: Rung) -> bool
+fn is_worth_trying(t: Table, p: Prices, s: State, up: Rung, k: Known, v: f64) -> bool
+    requires { ⌜ (k ≡ knownOf t p s (up .0)) × (v ≡ value t p s (choice t s)) ⌝ }
     ensures { λ b. ⌜ b ≡ (lt (value t p s (choice t s)) (losslessPrice t p (up .0)) && (due t p s (up .0) || cleanClimb t p s (up .0))) ⌝ }
 {
-    let here = account::state::choice_of(t, s);
-    let v = account::price::value_of(t, p, s, here);
-    if account::price::lossless_price(t, p, up) > v {
-        if is_due(t, p, s, up) {
+    let snr = s.snr;
+    let m = account::price::terms_of(t, p, s, snr);
+    if account::price::lossless_rate(m, k) > v {
+        if is_due(p, s, up, k) {
             return true;
         }
-        return is_clean_climb(t, p, s, up);
+        return is_clean_climb(t, m, s, up, k, v);
     }
     false
 }
 
-fn does_begin(t: Table, p: Prices, s: State) -> bool
+fn does_begin(t: Table, p: Prices, s: State, v: f64) -> bool
+    requires { ⌜ v ≡ value t p s (choice t s) ⌝ }
     ensures { λ b. ⌜ b ≡ begins t p s ⌝ }
 {
-    if is_above_usable(t, s) {
-        is_worth_trying(t, p, s, rung_above(t, s))
-    } else {
-        false
+    if has_above(t, s) {
+        let up = rung_above(t, s);
+        let k = account::price::known_of(t, p, s, up);
+        let row = k.row;
+        let limit = row.limit;
+        let echo = s.echo;
+        if crate::echo::over_limit(limit, echo) {
+            return false;
+        }
+        return is_worth_trying(t, p, s, up, k, v);
     }
+    false
 }
 
 // ---- `decide`: what it leaves
@@ -321,10 +355,11 @@ fn goes_on(t: Table, s: State, r: Rung) -> bool
     }
 }
 
-fn decide_idle(t: Table, p: Prices, s: State) -> Decided
+fn decide_idle(t: Table, p: Prices, s: State, v: f64) -> Decided
+    requires { ⌜ v ≡ value t p s (choice t s) ⌝ }
     ensures { λ d. ⌜ d ≡ decideTry t p s Nothing ⌝ }
 {
-    if does_begin(t, p, s) {
+    if does_begin(t, p, s, v) {
         begin_try(t, s)
     } else {
         still_at(s)
@@ -341,11 +376,12 @@ fn decide_running(t: Table, s: State, r: Rung) -> Decided
     }
 }
 
-fn decide_try(t: Table, p: Prices, s: State, y: Trying) -> Decided
+fn decide_try(t: Table, p: Prices, s: State, v: f64, y: Trying) -> Decided
+    requires { ⌜ v ≡ value t p s (choice t s) ⌝ }
     ensures { λ d. ⌜ d ≡ decideTry t p s y ⌝ }
 {
     match y {
-        Trying::Nothing => decide_idle(t, p, s),
+        Trying::Nothing => decide_idle(t, p, s, v),
         Trying::Running(r, _, _) => decide_running(t, s, r),
     }
 }
@@ -361,6 +397,6 @@ pub fn decide(t: Table, p: Prices, s: State) -> Decided
             account::state::with_place(s, Place(0)),
             Trying::Nothing,
         )),
-        Best::Found(i, _) => decide_try(t, p, account::state::with_place(s, i), y),
+        Best::Found(i, v) => decide_try(t, p, account::state::with_place(s, i), v, y),
     }
 }

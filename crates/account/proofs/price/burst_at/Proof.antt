@@ -10,14 +10,14 @@ cast-i c = search needs
 mul-result : tie.Need-mul-result
 mul-result c = search needs
 
-element-copy-out-result : tie.Need-element-copy-out-result
-element-copy-out-result c = search needs
+array-read-result : tie.Need-array-read-result
+array-read-result c = search needs
 
 returns : tie.Need-returns
 returns c = search needs
 
 returns-2 : tie.Need-returns-2
-returns-2 c = let a = c .before .before .args in outside (a .t1 .bursts) (a .r .0) (search needs) _ (search needs)
+returns-2 c = let a = c .before .before .before .args in outside (a .p .bursts) (a .r .0) (search needs) _ (search needs)
 
 pub burst-at-spec : {M : Type 1} → statement M
-burst-at-spec = tie.close (tie.spec cast-i mul-result element-copy-out-result returns returns-2)
+burst-at-spec = tie.close (tie.spec cast-i mul-result array-read-result returns returns-2)

@@ -16,25 +16,25 @@ cast-i c = search needs
 mul-known-by : tie.Need-mul-known-by
 mul-known-by c = search needs
 
-element-copy-out-known-by : tie.Need-element-copy-out-known-by
-element-copy-out-known-by c = search needs
+array-copy-out-known-by : tie.Need-array-copy-out-known-by
+array-copy-out-known-by c = search needs
 
 mul-known-by-2 : tie.Need-mul-known-by-2
 mul-known-by-2 c = search needs
 
-element-copy-out-known-by-2 : tie.Need-element-copy-out-known-by-2
-element-copy-out-known-by-2 c = search needs
+array-copy-out-known-by-2 : tie.Need-array-copy-out-known-by-2
+array-copy-out-known-by-2 c = search needs
 
 known-by-requires : tie.Need-known-by-requires
 known-by-requires c κs = search needs
 
 returns : tie.Need-returns
 returns c =
-    let b = c .before .before .before .before in
+    let b = c .before .before .before .before .before .before in
     let a = b .before .before .args in
-    let rows : length (a .t1 .rows) ≡ 32 = (let g = b .before .before .good .0 in search (needs, of-parts)) in
-    let accounts : length (a .t3 .accounts) ≡ 32 = (let g = b .before .before .good .1 .1 .0 in search (needs, of-parts)) in
-    rw (c .known-by .ensures, b .burst-or .ensures) (read (a .t1) (a .p) (a .t3) (a .r .0) rows accounts _ _)
+    let rows : length (a .t .rows) ≡ 32 = (let g = b .before .before .good .0 in search (needs, of-parts)) in
+    let accounts : length (a .s .accounts) ≡ 32 = (let g = b .before .before .good .1 .1 .0 in search (needs, of-parts)) in
+    rw (c .known-by .ensures, b .burst-or .ensures) (read (a .t) (a .p) (a .s) (a .r .0) rows accounts _ _)
 
 pub known-of-spec : {M : Type 1} → statement M
 known-of-spec =
@@ -43,8 +43,8 @@ known-of-spec =
     burst-or-requires
     cast-i
     mul-known-by
-    element-copy-out-known-by
+    array-copy-out-known-by
     mul-known-by-2
-    element-copy-out-known-by-2
+    array-copy-out-known-by-2
     known-by-requires
     returns)

@@ -13,16 +13,11 @@ prior-of-requires c κs = search needs
 estimate-of-requires : tie.Need-estimate-of-requires
 estimate-of-requires c κs = search needs
 
-overhead-of-requires : tie.Need-overhead-of-requires
-overhead-of-requires c κs = search needs
-
-priced-of-requires : tie.Need-priced-of-requires
-priced-of-requires c κs = search needs
+priced-by-requires : tie.Need-priced-by-requires
+priced-by-requires c κs = search needs
 
 returns : tie.Need-returns
-returns c =
-    let b = c .before .before .before .before in
-    rw (c .priced-of .ensures, c .before .overhead-of .ensures, c .before .before .estimate-of .ensures, c .before .before .before .prior-of .ensures, b .family-offset .ensures) refl
+returns c = rw (c .priced-by .ensures, c .before .estimate-of .ensures, c .before .before .prior-of .ensures, c .before .before .before .family-offset .ensures) refl
 
 pub rate-spec : {M : Type 1} → statement M
 rate-spec =
@@ -31,6 +26,5 @@ rate-spec =
     family-offset-requires
     prior-of-requires
     estimate-of-requires
-    overhead-of-requires
-    priced-of-requires
+    priced-by-requires
     returns)

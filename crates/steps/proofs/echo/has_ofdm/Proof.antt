@@ -1,5 +1,6 @@
 -- `steps::echo::has_ofdm` meets its contract: what is left of the walk gives what the whole walk gives. Assumes nothing.
-use mathlib.Core.Path.{_≡_, _∙_}
+use mathlib.Core.Path.{_≡_, ap, _∙_}
+use mathlib.Core.Bool.{not}
 use Prim.Native.Nat.{_-_, _≤_}
 use native.Mathlib.Omega.{arith}
 use Rattle.ladder.specs.Lists.{someFrom}
@@ -11,26 +12,35 @@ use Rattle.steps.proofs.echo.has_ofdm.Statement.{statement}
 use Rattle.steps.proofs.echo.has_ofdm.Tie as tie
 
 abbrev Inv-loop : tie.InvT-loop
-Inv-loop t places i₀ i = (i ≤ placesOf t) × (someFrom (placesOf t - i) i (ofdmAt t) ≡ someFrom (placesOf t) 0 (ofdmAt t))
+Inv-loop t front places i₀ i = (i ≤ placesOf t) × (someFrom (placesOf t - i) i (ofdmAt t) ≡ someFrom (placesOf t) 0 (ofdmAt t))
 
 abbrev μ-loop : tie.MeasureT-loop
-μ-loop t places i₀ i = placesOf t - i
+μ-loop t front places i₀ i = placesOf t - i
 
 places-of-requires : tie.Need-places-of-requires Inv-loop μ-loop
 places-of-requires c κs = search needs
 
 loop-holds : tie.Need-loop-holds Inv-loop μ-loop
-loop-holds c = let a = c .before .args in (omega arith, start (ofdmAt (a .t)) (placesOf (a .t)) 0)
+loop-holds c = let a = c .before .before .args in (omega arith, start (ofdmAt (a .t)) (placesOf (a .t)) 0)
 
-is-ofdm-at-requires : tie.Need-is-ofdm-at-requires Inv-loop μ-loop
-is-ofdm-at-requires c κs = search needs
+cast-at : tie.Need-cast-at Inv-loop μ-loop
+cast-at c = search needs
+
+mul-r : tie.Need-mul-r Inv-loop μ-loop
+mul-r c = search needs
+
+array-copy-out-r : tie.Need-array-copy-out-r Inv-loop μ-loop
+array-copy-out-r c = search needs
+
+is-floor-requires : tie.Need-is-floor-requires Inv-loop μ-loop
+is-floor-requires c κs = search needs
 
 returns : tie.Need-returns Inv-loop μ-loop
 returns c =
-    let b = c .before .before .before .before .before in
-    let a = b .args in
-    let l = c .before .before .before .loop in
-    found (ofdmAt (a .t)) (placesOf (a .t)) (l .i) (omega arith) (c .before .is-ofdm-at .result) (c .before .is-ofdm-at .ensures) (c .if1 .taken) ∙ l .inv .1
+    let b = c .before .before .before .before in
+    let a = b .before .before .before .args in
+    let l = b .loop in
+    found (ofdmAt (a .t)) (placesOf (a .t)) (l .i) (omega arith) (not (c .before .is-floor .result)) (ap not (c .before .is-floor .ensures)) (c .if1 .taken) ∙ l .inv .1
 
 add-i : tie.Need-add-i Inv-loop μ-loop
 add-i c = search needs
@@ -40,14 +50,14 @@ loop-less c = omega arith
 
 loop-again : tie.Need-loop-again Inv-loop μ-loop
 loop-again c =
-    let b = c .before .before .before .before .before in
-    let a = b .args in
-    let l = c .before .before .before .loop in
-    (omega arith, further (ofdmAt (a .t)) (placesOf (a .t)) (l .i) (omega arith) (c .before .is-ofdm-at .result) (c .before .is-ofdm-at .ensures) (c .if1 .left) ∙ l .inv .1)
+    let b = c .before .before .before .before in
+    let a = b .before .before .before .args in
+    let l = b .loop in
+    (omega arith, further (ofdmAt (a .t)) (placesOf (a .t)) (l .i) (omega arith) (not (c .before .is-floor .result)) (ap not (c .before .is-floor .ensures)) (c .if1 .left) ∙ l .inv .1)
 
 returns-2 : tie.Need-returns-2 Inv-loop μ-loop
 returns-2 c =
-    let a = c .before .before .before .args in
+    let a = c .before .before .before .before .args in
     let l = c .before .loop in
     done (ofdmAt (a .t)) (placesOf (a .t)) (l .i) (omega arith) ∙ l .inv .1
 
@@ -59,7 +69,10 @@ has-ofdm-spec =
     μ-loop
     places-of-requires
     loop-holds
-    is-ofdm-at-requires
+    cast-at
+    mul-r
+    array-copy-out-r
+    is-floor-requires
     returns
     add-i
     loop-less

@@ -17,25 +17,34 @@ abbrev inside : Table → State → ℕ → Bool
 inside t s i = ofdmAt t i && not (out t s (rungAt t i))
 
 abbrev Inv-loop : tie.InvT-loop
-Inv-loop t s places i₀ i = (i ≤ placesOf t) × (someFrom (placesOf t - i) i (inside t s) ≡ someFrom (placesOf t) 0 (inside t s))
+Inv-loop t s front places i₀ i = (i ≤ placesOf t) × (someFrom (placesOf t - i) i (inside t s) ≡ someFrom (placesOf t) 0 (inside t s))
 
 abbrev μ-loop : tie.MeasureT-loop
-μ-loop t s places i₀ i = placesOf t - i
+μ-loop t s front places i₀ i = placesOf t - i
 
 places-of-requires : tie.Need-places-of-requires Inv-loop μ-loop
 places-of-requires c κs = search needs
 
 loop-holds : tie.Need-loop-holds Inv-loop μ-loop
-loop-holds c = let a = c .before .args in (omega arith, start (inside (a .t) (a .s)) (placesOf (a .t)) 0)
+loop-holds c = let a = c .before .before .args in (omega arith, start (inside (a .t) (a .s)) (placesOf (a .t)) 0)
+
+cast-at : tie.Need-cast-at Inv-loop μ-loop
+cast-at c = search needs
+
+mul-r : tie.Need-mul-r Inv-loop μ-loop
+mul-r c = search needs
+
+array-copy-out-r : tie.Need-array-copy-out-r Inv-loop μ-loop
+array-copy-out-r c = search needs
 
 is-ofdm-in-requires : tie.Need-is-ofdm-in-requires Inv-loop μ-loop
 is-ofdm-in-requires c κs = search needs
 
 returns : tie.Need-returns Inv-loop μ-loop
 returns c =
-    let b = c .before .before .before .before .before in
-    let a = b .args in
-    let l = c .before .before .before .loop in
+    let b = c .before .before .before .before in
+    let a = b .before .before .before .args in
+    let l = b .loop in
     found (inside (a .t) (a .s)) (placesOf (a .t)) (l .i) (omega arith) (c .before .is-ofdm-in .result) (c .before .is-ofdm-in .ensures) (c .if1 .taken) ∙ l .inv .1
 
 add-i : tie.Need-add-i Inv-loop μ-loop
@@ -46,14 +55,14 @@ loop-less c = omega arith
 
 loop-again : tie.Need-loop-again Inv-loop μ-loop
 loop-again c =
-    let b = c .before .before .before .before .before in
-    let a = b .args in
-    let l = c .before .before .before .loop in
+    let b = c .before .before .before .before in
+    let a = b .before .before .before .args in
+    let l = b .loop in
     (omega arith, further (inside (a .t) (a .s)) (placesOf (a .t)) (l .i) (omega arith) (c .before .is-ofdm-in .result) (c .before .is-ofdm-in .ensures) (c .if1 .left) ∙ l .inv .1)
 
 returns-2 : tie.Need-returns-2 Inv-loop μ-loop
 returns-2 c =
-    let a = c .before .before .before .args in
+    let a = c .before .before .before .before .args in
     let l = c .before .loop in
     done (inside (a .t) (a .s)) (placesOf (a .t)) (l .i) (omega arith) ∙ l .inv .1
 
@@ -65,6 +74,9 @@ has-ofdm-in-spec =
     μ-loop
     places-of-requires
     loop-holds
+    cast-at
+    mul-r
+    array-copy-out-r
     is-ofdm-in-requires
     returns
     add-i

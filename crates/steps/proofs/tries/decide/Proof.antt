@@ -1,9 +1,24 @@
 -- `steps::tries::decide` meets its contract: by the cases of the enum. Assumes nothing.
-use mathlib.Core.Path.{refl}
-use Rattle.steps.specs.Tries.{decide}
+use mathlib.Core.Path.{_≡_, refl, sym, subst, _∙_}
+use lib.Ieee.{Float}
+use Rattle.ladder.specs.declared.types.Place.{Place}
+use Rattle.ladder.specs.declared.types.Table.{Table}
+use Rattle.ladder.specs.Types.{placesOf}
+use Rattle.account.specs.declared.types.Prices.{Prices}
+use Rattle.account.specs.declared.types.State.{State}
+use Rattle.account.specs.State.{choice, withPlace}
+use Rattle.account.specs.Price.{value, estimateAt}
+use Rattle.steps.specs.Echo.{NoneYet, Found}
+use Rattle.steps.specs.Tries.{candidate, choose, decide}
+use Rattle.steps.proofs.Greatest.{worth, Valued, keeps}
 use borrow.Author.Needs.{needs}
 use Rattle.steps.proofs.tries.decide.Statement.{statement}
 use Rattle.steps.proofs.tries.decide.Tie as tie
+
+-- the value found is the choice's: no value looks at the place
+chosen : (t : Table) (p : Prices) (s : State) (i : Place) (v : Float) → choose t p s ≡ Found i v → v ≡ value t p (withPlace s (i .0)) (choice t (withPlace s (i .0)))
+unfolding choose value estimateAt
+chosen t p s i v e = subst (Valued (candidate t s) (worth t p s)) e (keeps (candidate t s) (worth t p s) (placesOf t) 0 NoneYet tt)
 
 choose-place-requires : tie.Need-choose-place-requires
 choose-place-requires c κs = search needs
@@ -27,7 +42,10 @@ with-place-requires-2 : tie.Need-with-place-requires-2
 with-place-requires-2 c κs = search needs
 
 decide-try-requires : tie.Need-decide-try-requires
-decide-try-requires c κs = search needs
+decide-try-requires c κs =
+    let b = c .before .before .before .before in
+    let a = b .before .args in
+    rw (c .with-place2 .ensures) (chosen (a .t) (a .p) (a .s) _ _ (sym (b .choose-place .ensures) ∙ c .before .before .best .given .1))
 
 returns : tie.Need-returns
 unfolding decide

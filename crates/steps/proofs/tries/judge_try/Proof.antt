@@ -1,4 +1,4 @@
--- `steps::tries::judge_try` meets its contract: each return is the definition where the tests are as the way there found them. Assumes nothing.
+-- `steps::tries::judge_try` meets its contract: it is judged by the definition's test. Assumes nothing.
 use mathlib.Core.Path.{refl}
 use Rattle.steps.specs.Tries.{judgeTry}
 use borrow.Author.Needs.{needs}
@@ -8,40 +8,12 @@ use Rattle.steps.proofs.tries.judge_try.Tie as tie
 is-better-requires : tie.Need-is-better-requires
 is-better-requires c κs = search needs
 
-with-wait-requires : tie.Need-with-wait-requires
-with-wait-requires c κs = search needs
-
-wait-of-requires : tie.Need-wait-of-requires
-wait-of-requires c κs = search needs
-
-longer-requires : tie.Need-longer-requires
-longer-requires c κs = search needs
-
-with-wait-requires-2 : tie.Need-with-wait-requires-2
-with-wait-requires-2 c κs = search needs
-
-with-time-requires : tie.Need-with-time-requires
-with-time-requires c κs = search needs
+judge-by-requires : tie.Need-judge-by-requires
+judge-by-requires c κs = search needs
 
 returns : tie.Need-returns
 unfolding judgeTry
-returns c = rw (c .with-wait .ensures, ← c .before .before .is-better .ensures, c .before .if1 .taken) refl
-
-returns-2 : tie.Need-returns-2
-unfolding judgeTry
-returns-2 c =
-    let b = c .before .before .before .before in
-    rw (c .with-time .ensures, c .before .with-wait2 .ensures, c .before .before .longer .ensures, c .before .before .before .wait-of .ensures, ← b .before .is-better .ensures, b .if1 .left) refl
+returns c = rw (c .judge-by .ensures, c .before .is-better .ensures) refl
 
 pub judge-try-spec : {M : Type 1} → statement M
-judge-try-spec =
-    tie.close
-    (tie.spec
-    is-better-requires
-    with-wait-requires
-    wait-of-requires
-    longer-requires
-    with-wait-requires-2
-    with-time-requires
-    returns
-    returns-2)
+judge-try-spec = tie.close (tie.spec is-better-requires judge-by-requires returns)
