@@ -6,7 +6,7 @@ use Prim.Native.Nat.{ℕ}
 use lib.Dec.{eqb}
 use lib.Ieee.{Float, neg, lt}
 use lib.ListN.{length, replicate}
-use Rattle.float.specs.Numbers.{f64, f0, f½, f1}
+use Rattle.float.specs.Numbers.{f64, f0, f½, f1, f20}
 use Rattle.half.specs.Power.{half, f1022}
 use Rattle.half.specs.Logistic.{decodeProbability}
 use Rattle.limits.specs.declared.refusal.Refusal.{Refusal}
@@ -69,10 +69,7 @@ f1021 = f64 0x408f_e800_0000_0000
 abbrev pub least : Float
 least = f64 0x0020_0000_0000_0000
 
--- 20.0 and 20.25
-abbrev pub f20 : Float
-f20 = f64 0x4034_0000_0000_0000
-
+-- 20.25
 abbrev pub f20¼ : Float
 f20¼ = f64 0x4034_4000_0000_0000
 

@@ -9,7 +9,7 @@ use lib.Dec.{T, leb→le}
 use lib.ListN.{getD, set}
 use lib.Ieee.{Float, ofBits, ofInt, round, neg, add, sub, mul, div, le, lt}
 use lib.Ieee.Fits.{and-l, and-r}
-use Rattle.float.specs.Numbers.{f64, _⊕_, _⊖_, _⊗_, _⊘_, ofNat, f0, f1}
+use Rattle.float.specs.Numbers.{f64, _⊕_, _⊖_, _⊗_, _⊘_, ofNat, f0, f1, f5, f20}
 use Rattle.float.specs.Sum.{total}
 use Rattle.float.proofs.Order.{number, not-lt}
 use Rattle.float.proofs.Rounding.{zero64}
@@ -32,7 +32,7 @@ use Rattle.account.specs.declared.types.State.{State}
 use Rattle.account.specs.State.{noAccount}
 use Rattle.account.specs.Price.{chance}
 use Rattle.steps.specs.declared.types.Frame.{Frame}
-use Rattle.steps.specs.Booking.{at, f5, f20, clamp, moved, offsetStep, offsetsFrom, offsetsAt, offsetsAfter, f12, aged, gained, bookOne, bookFrame, book, airs, callAir, passed, booked}
+use Rattle.steps.specs.Booking.{at, clamp, moved, offsetStep, offsetsFrom, offsetsAt, offsetsAfter, f12, aged, gained, bookOne, bookFrame, book, airs, callAir, passed, booked}
 use Rattle.steps.specs.Check.{frameVerdict, firstBad}
 use Rattle.steps.proofs.Fade.{own-fade}
 use Rattle.finite.proofs.Ranges.{Range, _to_, In, bounded, first, second, third, in-by, in-number, in-natural, widen, holds, _⊞_, _⊠_, _÷_, scaled, sums, differences, products, quotients, scales, sum-in, difference-in, product-in, quotient-in, scaled-in, counts}

@@ -8,7 +8,7 @@ use lib.ListN.{length, getD, take}
 use lib.Seq.{getD-take}
 use lib.Ieee.{Float, ofBits, neg, mul, le}
 use lib.Ieee.Fits.{and-l, and-r}
-use Rattle.float.specs.Numbers.{ofNat, f0, f1}
+use Rattle.float.specs.Numbers.{ofNat, f0, f1, f5, f20}
 use Rattle.limits.specs.Values.{f200, f60, milli, okDb, okAir, okBytes}
 use Rattle.limits.specs.declared.refusal.Verdict.the-variants.{Accepted}
 use Rattle.ladder.specs.declared.types.Reading.{Reading}
@@ -26,7 +26,6 @@ use Rattle.account.specs.declared.types.Offsets.{Offsets}
 use Rattle.account.specs.declared.types.Tariff.{Tariff}
 use Rattle.account.specs.declared.types.State.{State}
 use Rattle.account.proofs.FullAir.{TariffSound, IsWait}
-use Rattle.steps.specs.Booking.{f5, f20}
 use Rattle.finite.specs.Finite.{mostBytes, mostAir, mostFrames, longest}
 use Rattle.finite.proofs.Ranges.{Range, _to_, In, scales}
 

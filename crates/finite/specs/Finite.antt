@@ -7,7 +7,7 @@ use Prim.Native.Nat.{ℕ, suc, _≤_}
 use lib.Dec.{T, ltb}
 use lib.Ieee.{Float, neg, le, lt}
 use lib.Ieee.Scale.{finite}
-use Rattle.float.specs.Numbers.{f64, within, f0, f1, f2}
+use Rattle.float.specs.Numbers.{f64, within, f0, f1, f2, f5, f20}
 use Rattle.limits.specs.Values.{f200, f60, milli, okDb}
 use Rattle.limits.specs.declared.refusal.Verdict.the-variants.{Accepted}
 use Rattle.ladder.specs.declared.types.Reading.{Reading}
@@ -23,7 +23,7 @@ use Rattle.account.specs.State.{account, timeOf, waitOf, choice}
 use Rattle.account.specs.Price.{burstOr, estimate, estimateAt, lossless, priced, value, losslessPrice, waitSeconds}
 use Rattle.steps.specs.declared.types.Frame.{Frame}
 use Rattle.steps.specs.Echo.{usable, observeSnr}
-use Rattle.steps.specs.Booking.{f5, f20, booked}
+use Rattle.steps.specs.Booking.{booked}
 use Rattle.steps.specs.Tries.{judgeAbove, candidate, due, cleanClimb, above, begins}
 use Rattle.steps.specs.Transmission.{inside}
 use Rattle.rate.specs.declared.types.RateController.{RateController}

@@ -46,3 +46,10 @@ f1 = f64 0x3ff0_0000_0000_0000
 -- 2.0
 abbrev pub f2 : Float
 f2 = f64 0x4000_0000_0000_0000
+
+-- 5.0 and 20.0
+abbrev pub f5 : Float
+f5 = f64 0x4014_0000_0000_0000
+
+abbrev pub f20 : Float
+f20 = f64 0x4034_0000_0000_0000

@@ -10,7 +10,7 @@ use lib.Ieee.{Float, nan, binary64, neg, add, sub, mul, div, le, lt, ofBits, fit
 use lib.Ieee.Fits.{and-l, and-r}
 use lib.Ieee.Scale.{finite}
 use lib.Ieee.Positive.{positive}
-use Rattle.float.specs.Numbers.{f64, _⊕_, _⊖_, _⊗_, _⊘_, f0, f½, f1, f2}
+use Rattle.float.specs.Numbers.{f64, _⊕_, _⊖_, _⊗_, _⊘_, f0, f½, f1, f2, f5}
 use Rattle.float.proofs.Table.{both, both-left, both-right, every, at}
 use Rattle.float.proofs.Order.{number, le-le, le-left, le-right, lt-le-lt, lt-le, not-le}
 use Rattle.float.proofs.Rounding.{zero64, neg-number}
@@ -20,7 +20,7 @@ use Rattle.float.proofs.Division.{div-number}
 use Rattle.float.proofs.Share.{one64, plain, plain-natural, Share, UpTo, Small, share-small, round-share, mul-small, mul-share, less-share, div-plain, div-small, one-is, mul-up, one-by, neg-natural, inverse-from-one}
 use Rattle.limits.specs.Values.{okDb, okSlope, f200, eighth, f16}
 use Rattle.half.specs.Powers.{powers, powerAt}
-use Rattle.half.specs.Power.{f512, f1022, ln2, f3, f4, f5, descent, wholeSteps, partSteps, level, seriesIn, series, inversePower, joined, half}
+use Rattle.half.specs.Power.{f512, f1022, ln2, f3, f4, descent, wholeSteps, partSteps, level, seriesIn, series, inversePower, joined, half}
 use Rattle.half.specs.Logistic.{log2e, f9, f40, exp, logistic, decodeProbability, FromZeroToOne}
 use Rattle.half.proofs.Powers.{sized}
 

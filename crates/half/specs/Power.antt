@@ -2,7 +2,7 @@
 use mathlib.Core.Bool.{false, cond}
 use Prim.Native.Nat.{ℕ, zero, suc, _+_, _/_, _^_}
 use lib.Ieee.{Float, binary64, round, le}
-use Rattle.float.specs.Numbers.{f64, _⊖_, _⊗_, _⊘_, f0, f½, f1, f2}
+use Rattle.float.specs.Numbers.{f64, _⊖_, _⊗_, _⊘_, f0, f½, f1, f2, f5}
 use Rattle.half.specs.Powers.{powerAt}
 
 -- 512.0, the first whole step
@@ -17,15 +17,12 @@ f1022 = f64 0x408f_f000_0000_0000
 abbrev pub ln2 : Float
 ln2 = f64 0x3fe6_2e42_fefa_39ef
 
--- 3.0, 4.0 and 5.0
+-- 3.0 and 4.0
 abbrev pub f3 : Float
 f3 = f64 0x4008_0000_0000_0000
 
 abbrev pub f4 : Float
 f4 = f64 0x4010_0000_0000_0000
-
-abbrev pub f5 : Float
-f5 = f64 0x4014_0000_0000_0000
 
 -- "r = t; for s = 512, 256, .. 1, then 1/2, 1/4, .. 1/256: if r >= s, subtract s."
 -- `left` steps are left, s is the next, of weight w; r is what is left, and k the sum of the weights of the steps taken.

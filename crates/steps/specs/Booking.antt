@@ -5,7 +5,7 @@ use Prim.Native.Nat.{ℕ, zero, suc}
 use lib.Dec.{eqb}
 use lib.Ieee.{Float, neg, lt}
 use lib.ListN.{getD, set}
-use Rattle.float.specs.Numbers.{f64, _⊕_, _⊖_, _⊗_, _⊘_, ofNat, f0, f1}
+use Rattle.float.specs.Numbers.{f64, _⊕_, _⊖_, _⊗_, _⊘_, ofNat, f0, f1, f5, f20}
 use Rattle.float.specs.Sum.{total}
 use Rattle.half.specs.Power.{half}
 use Rattle.ladder.specs.declared.types.Reading.{Reading}
@@ -28,13 +28,6 @@ abbrev pub at : ℕ → Frame → Bool
 at r f = eqb (f .rung .0) r
 
 -- ---- offsets: "Per frame not combined, with SNR known: offset += gain × (p - decoded), clamped to -5..20."
--- 5.0 and 20.0
-abbrev pub f5 : Float
-f5 = f64 0x4014_0000_0000_0000
-
-abbrev pub f20 : Float
-f20 = f64 0x4034_0000_0000_0000
-
 abbrev pub clamp : Float → Float
 clamp x = cond (lt x (neg f5)) (neg f5) (cond (lt f20 x) f20 x)
 

@@ -1,8 +1,7 @@
 -- Each branch gives its test its value in the definition; the constant's bits have the sign. Assumes nothing.
 use mathlib.Core.Path.{_≡_, refl}
 use lib.Ieee.{ofBits, neg}
-use Rattle.float.specs.Numbers.{f64}
-use Rattle.steps.specs.Booking.{f5}
+use Rattle.float.specs.Numbers.{f64, f5}
 use Rattle.steps.proofs.booking.clamp_offset.Statement.{statement}
 use Rattle.steps.proofs.booking.clamp_offset.Tie as tie
 
