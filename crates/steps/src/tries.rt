@@ -2,7 +2,7 @@
 ghost use mathlib.Core.Path.{_≡_};
 ghost use mathlib.Core.Bool.{cond, _&&_, _||_, Bool·beq};
 ghost use Prim.Native.Nat.{suc, _*_, min};
-ghost use lib.Dec.{eqb, ltb};
+ghost use lib.Dec.{eqb, leb, ltb};
 ghost use lib.Ieee.{le, lt};
 ghost use Rattle.float.specs.Numbers.{_⊖_, _⊗_, ofNat, f0};
 ghost use Rattle.ladder.specs.Types.{placesOf, isFloor};
@@ -157,17 +157,32 @@ pub fn end_try(t: Table, p: Prices, s: State, r: Rung, frames: u64) -> State
     }
 }
 
+// Whether a try is over with this call: so many own frames with the call's, and so many calls before it.
+fn is_over(frames: u64, calls: u32) -> bool
+    ensures { λ b. ⌜ b ≡ (leb 3 frames || leb 6 (suc calls)) ⌝ }
+{
+    if frames >= 3 {
+        return true;
+    }
+    if calls >= 5 {
+        return true;
+    }
+    false
+}
+
 // Both counts are summed wider than they are held, and held only while they are under 3 and 6.
 fn count_running(t: Table, p: Prices, n: u32, s: State, r: Rung, calls: u32, frames: u32) -> State
     ensures { λ z. ⌜ z ≡ counted t p n s (Running r calls frames) ⌝ }
 {
     let all = frames as u64 + n as u64;
-    let idle = account::state::with_trying(s, Trying::Nothing);
-    if all >= 3 {
-        return end_try(t, p, idle, r, all);
-    }
-    if calls >= 5 {
-        return end_try(t, p, idle, r, all);
+    if is_over(all, calls) {
+        return end_try(
+            t,
+            p,
+            account::state::with_trying(s, Trying::Nothing),
+            r,
+            all,
+        );
     }
     account::state::with_trying(s, Trying::Running(r, calls + 1, all as u32))
 }
