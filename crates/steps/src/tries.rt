@@ -233,10 +233,10 @@ pub fn choose_place(t: Table, p: Prices, s: State) -> Best
     let snr = s.snr;
     let terms = account::price::terms_of(t, p, s, snr);
     let echo = s.echo;
-    let here = s.place;
     let places = ladder::read::places_of(t);
     let front = t.front;
     let rows = t.rows;
+    let accounts = s.accounts;
     let mut best = Best::NoneYet;
     let mut i: u32 = 0;
     while i < places {
@@ -245,7 +245,8 @@ pub fn choose_place(t: Table, p: Prices, s: State) -> Best
         let tariff = p.tariff;
         let n = account::price::burst_or(tariff, r, 0);
         let k = (r.0 % 32) as usize;
-        let known = account::price::known_by(r, rows[k], s.accounts[k], n, t.floors);
+        let known = account::price::known_by(r, rows[k], accounts[k], n, t.floors);
+        let here = s.place;
         best = improve(terms, known, echo, here, Place(i), best);
         i += 1;
     }

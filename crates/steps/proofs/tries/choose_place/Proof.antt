@@ -31,10 +31,10 @@ same t p s i m k b z h e f g =
     rw (g, v, f, lt-ltb i (placesOf t) h) refl
 
 abbrev Inv-loop : tie.InvT-loop
-Inv-loop t p s terms echo here places front rows best₀ i₀ best i = (i ≤ placesOf t) × (greatest (placesOf t - i) i (candidate t s) (worth t p s) best ≡ choose t p s)
+Inv-loop t p s terms echo places front rows accounts best₀ i₀ best i = (i ≤ placesOf t) × (greatest (placesOf t - i) i (candidate t s) (worth t p s) best ≡ choose t p s)
 
 abbrev μ-loop : tie.MeasureT-loop
-μ-loop t p s terms echo here places front rows best₀ i₀ best i = placesOf t - i
+μ-loop t p s terms echo places front rows accounts best₀ i₀ best i = placesOf t - i
 
 terms-of-requires : tie.Need-terms-of-requires Inv-loop μ-loop
 terms-of-requires c κs = search needs
@@ -46,7 +46,7 @@ loop-holds : tie.Need-loop-holds Inv-loop μ-loop
 unfolding choose
 loop-holds c =
     let a = c .before .before .before .before .before .args in
-    (omega arith, start (candidate (a .t) (a .t3)) (worth (a .t) (a .p) (a .t3)) (placesOf (a .t)) NoneYet)
+    (omega arith, start (candidate (a .t) (a .s)) (worth (a .t) (a .p) (a .s)) (placesOf (a .t)) NoneYet)
 
 cast-at : tie.Need-cast-at Inv-loop μ-loop
 cast-at c = search needs
@@ -72,8 +72,8 @@ array-copy-out-known-by c = search needs
 mul-known-by-2 : tie.Need-mul-known-by-2 Inv-loop μ-loop
 mul-known-by-2 c = search needs
 
-element-copy-out-known-by : tie.Need-element-copy-out-known-by Inv-loop μ-loop
-element-copy-out-known-by c = search needs
+array-copy-out-known-by-2 : tie.Need-array-copy-out-known-by-2 Inv-loop μ-loop
+array-copy-out-known-by-2 c = search needs
 
 known-by-requires : tie.Need-known-by-requires Inv-loop μ-loop
 known-by-requires c κs = search needs
@@ -89,26 +89,26 @@ loop-less c = omega arith
 
 loop-again : tie.Need-loop-again Inv-loop μ-loop
 loop-again c =
-    let b = c .before .before .before .before .before in
+    let b = c .before .before .before .before .before .before in
     let d = b .before .before .before .before in
     let m = d .before .before .before .before .before in
     let e = m .before in
     let a = e .args in
     let l = d .loop in
     let r = rungAt (a .t) (l .i) in
-    let h : l .i < placesOf (a .t) = omega (arith, b .before .before .before .loop-test .taken, d .before .before .before .places-of .ensures) in
+    let h : l .i < placesOf (a .t) = omega (arith, b .before .before .before .loop-test .taken, d .before .before .before .before .places-of .ensures) in
     let rows : length (a .t .rows) ≡ 32 = (let g = e .good .0 in search (needs, of-parts)) in
-    let accounts : length (a .t3 .accounts) ≡ 32 = (let g = e .good .1 .1 .0 in search (needs, of-parts)) in
-    let k : c .before .known-by .result ≡ knownOf (a .t) (a .p) (a .t3) r = rw (c .before .known-by .ensures, b .burst-or .ensures) (read (a .t) (a .p) (a .t3) r rows accounts _ _) in
-    let z = same (a .t) (a .p) (a .t3) (l .i) (m .terms-of .result) (c .before .known-by .result) (l .best) (c .improve .result) h (m .terms-of .ensures) k (c .improve .ensures) in
-    (omega (arith, h), turn (candidate (a .t) (a .t3)) (worth (a .t) (a .p) (a .t3)) (placesOf (a .t)) (l .i) (l .best) (c .improve .result) h z ∙ l .inv .1)
+    let accounts : length (a .s .accounts) ≡ 32 = (let g = e .good .1 .1 .0 in search (needs, of-parts)) in
+    let k : c .before .before .known-by .result ≡ knownOf (a .t) (a .p) (a .s) r = rw (c .before .before .known-by .ensures, b .burst-or .ensures) (read (a .t) (a .p) (a .s) r rows accounts _ _) in
+    let z = same (a .t) (a .p) (a .s) (l .i) (m .terms-of .result) (c .before .before .known-by .result) (l .best) (c .improve .result) h (m .terms-of .ensures) k (c .improve .ensures) in
+    (omega (arith, h), turn (candidate (a .t) (a .s)) (worth (a .t) (a .p) (a .s)) (placesOf (a .t)) (l .i) (l .best) (c .improve .result) h z ∙ l .inv .1)
 
 returns : tie.Need-returns Inv-loop μ-loop
 returns c =
     let b = c .before .before .before .before .before .before .before in
     let a = b .args in
     let l = c .before .loop in
-    done (candidate (a .t) (a .t3)) (worth (a .t) (a .p) (a .t3)) (placesOf (a .t)) (l .i) (l .best) (omega arith) ∙ l .inv .1
+    done (candidate (a .t) (a .s)) (worth (a .t) (a .p) (a .s)) (placesOf (a .t)) (l .i) (l .best) (omega arith) ∙ l .inv .1
 
 pub choose-place-spec : {M : Type 1} → statement M
 choose-place-spec =
@@ -127,7 +127,7 @@ choose-place-spec =
     mul-known-by
     array-copy-out-known-by
     mul-known-by-2
-    element-copy-out-known-by
+    array-copy-out-known-by-2
     known-by-requires
     improve-requires
     add-i
