@@ -3,7 +3,7 @@ ghost use mathlib.Core.Path.{_≡_};
 ghost use mathlib.Core.Bool.{cond};
 ghost use lib.ListN.{getD};
 ghost use Rattle.float.specs.Numbers.{_⊗_, _⊘_, ofNat};
-ghost use Rattle.account.specs.Price.{chanceAt, chance, priorOf, estimateOf, estimateAt, lossless, control, burstOr, overheadOf, pricedOf, priced, value, fullAir, waitSeconds, termsOf, knownOf, knownBy, rateOf};
+ghost use Rattle.account.specs.Price.{chanceAt, priorOf, estimateOf, estimateAt, lossless, control, burstOr, overheadOf, pricedOf, priced, value, fullAir, waitSeconds, termsOf, knownOf, knownBy, rateOf};
 use crate::types::Account;
 use crate::types::Families;
 use crate::types::Known;
@@ -35,14 +35,6 @@ pub fn chance_at(threshold: f64, margin: f64, off: f64, snr: f64) -> f64
     ensures { λ x. ⌜ x ≡ chanceAt threshold margin off snr ⌝ }
 {
     half::logistic::logistic(snr - off - margin, threshold, SLOPE_DB)
-}
-
-// The same of a rung.
-pub fn chance_of(t: Table, r: Rung, off: f64, snr: f64) -> f64
-    ensures { λ x. ⌜ x ≡ chance t (r .0) off snr ⌝ }
-{
-    let row = ladder::read::row_of(t, r);
-    chance_at(row.threshold, t.margin, off, snr)
 }
 
 // What the prior expects of a frame, in bytes: 0 without an SNR.
