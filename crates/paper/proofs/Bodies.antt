@@ -1,16 +1,19 @@
 -- The lists of a body by their entries: how many there are, and what stands at each. Assumes nothing.
-use mathlib.Core.Path.{_≡_, _∙_}
+use mathlib.Core.Path.{_≡_, sym, _∙_}
 use mathlib.Core.Bool.{Bool, true, false}
 use mathlib.Core.List.{List}
-use Prim.Native.Nat.{ℕ, _+_, _*_, _<_, _≤_}
+use Prim.Native.Nat.{ℕ, _+_, _*_, _<_, _≤_, min}
 use native.Mathlib.Nat.{zero-add}
+use native.Mathlib.Omega.{arith}
 use borrow.Author.Tests.{lt-ltb, le-ltb, le-leb, lt-leb}
-use lib.ListN.{length, getD, drop, length-replicate}
+use lib.ListN.{length, getD, drop, take, set, length-replicate}
 use Rattle.ladder.specs.Lists.{every}
 use Rattle.limits.specs.Values.{okBurst}
 use Rattle.steps.specs.declared.types.Frame.{Frame}
 use Rattle.paper.specs.Bytes.{byte, le16}
 use Rattle.paper.specs.Body.{allFrom, frameCount, frameBytes, okFlags, frameOf, frameAt, framesIn, burstCount, burstAt, burstsIn, noFrame, noFrames, noFew, noBursts}
+use Rattle.paper.specs.Lines.{over}
+use Rattle.paper.proofs.Over.{Over, copy-next, copy-end}
 use Rattle.paper.proofs.Ranges.{length-tabulate, tabulate-at, every-tabulate}
 
 -- ---- flags: r is the flags' byte of the i-th frame, as a call gave it
@@ -30,6 +33,14 @@ length-frames b = length-tabulate (frameCount b) 0 (frameAt b)
 pub frame-at : (b : List ℕ) (i : ℕ) (d : Frame) → i < frameCount b → getD (framesIn b) i d ≡ frameOf (frameBytes b i)
 unfolding framesIn frameAt
 frame-at b i d h = tabulate-at (frameCount b) 0 i (frameAt b) d h ∙ rw zero-add
+
+-- the frames of a body go one by one to an array, of whatever size m: the next one, as calls gave it, and the end
+module _ (b : List ℕ) (old new : List Frame) (i : ℕ) (o : Over (take i (framesIn b)) old i new) where
+  pub frame-next : (f : Frame) → i < frameCount b → i < length old → f ≡ frameOf (frameBytes b i) → Over (take (i + 1) (framesIn b)) old (i + 1) (set new i f)
+  frame-next f h g e = copy-next (framesIn b) old new i noFrame f (omega (arith, length-frames b)) g (e ∙ sym (frame-at b i noFrame h)) o
+
+  pub frames-end : (m : ℕ) → min m (frameCount b) ≤ i → i ≤ frameCount b → i ≤ m → new ≡ over (take m (framesIn b)) old
+  frames-end m h g k = copy-end (framesIn b) old new m i (omega (arith, length-frames b)) (omega (arith, length-frames b)) k o
 
 pub length-noFrames : length noFrames ≡ 256
 unfolding noFrames

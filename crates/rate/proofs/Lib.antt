@@ -2,3 +2,4 @@ pub mod Stepping
 pub mod ByKind
 pub mod Bursts
 pub mod Passes
+pub mod Plain

@@ -1,13 +1,13 @@
 -- `body::few_of` meets its contract. The invariant: the first i frames stand over the start of an array of none. Assumes nothing.
-use mathlib.Core.Path.{_≡_, sym, ap, _∙_}
+use mathlib.Core.Path.{_≡_, ap, _∙_}
 use Prim.Native.Nat.{_-_, _≤_}
 use native.Mathlib.Omega.{arith}
 use lib.ListN.{length, take}
-use Rattle.paper.specs.Body.{frameOf, framesIn, noFrame, noFew, fewOf}
+use Rattle.paper.specs.Body.{frameOf, framesIn, fewOf}
 use Rattle.paper.specs.Lines.{over}
 use borrow.Author.Needs.{needs}
-use Rattle.paper.proofs.Bodies.{length-frames, frame-at, length-noFew}
-use Rattle.paper.proofs.Over.{Over, over-start, copy-next, copy-end}
+use Rattle.paper.proofs.Bodies.{frame-next, frames-end, length-noFew}
+use Rattle.paper.proofs.Over.{Over, over-start}
 use Rattle.paper.proofs.body.few_of.Statement.{statement}
 use Rattle.paper.proofs.body.few_of.Tie as tie
 
@@ -58,10 +58,8 @@ loop-again c =
     let b = c .before .before .before .before .before .before .before .before .args .body .now in
     let l = c .before .before .before .loop in
     let none = c .before .before .before .before .before .before .no-few in
-    let many : length (framesIn b) ≡ c .before .before .before .before .before .frame-count .result = length-frames b ∙ sym (c .before .before .before .before .before .frame-count .ensures) in
     let room : length (none .result) ≡ 16 = ap length (none .ensures) ∙ length-noFew in
-    let is = c .frame-of .ensures ∙ ap frameOf (c .before .past .ensures) ∙ sym (frame-at b (l .i) noFrame (omega arith)) in
-    (omega arith, copy-next (framesIn b) (none .result) (l .frames) (l .i) noFrame (c .frame-of .result) (omega arith) (omega arith) is (l .inv .1))
+    (omega arith, frame-next b (none .result) (l .frames) (l .i) (l .inv .1) (c .frame-of .result) (omega arith) (omega arith) (c .frame-of .ensures ∙ ap frameOf (c .before .past .ensures)))
 
 returns : tie.Need-returns Inv-loop μ-loop
 unfolding fewOf
@@ -69,8 +67,7 @@ returns c =
     let b = c .before .before .before .before .before .before .args .body .now in
     let l = c .before .loop in
     let none = c .before .before .before .before .no-few in
-    let many : length (framesIn b) ≡ c .before .before .before .frame-count .result = length-frames b ∙ sym (c .before .before .before .frame-count .ensures) in
-    copy-end (framesIn b) (none .result) (l .frames) 16 (l .i) (omega arith) (omega arith) (omega arith) (l .inv .1) ∙ ap (over (take 16 (framesIn b))) (none .ensures)
+    frames-end b (none .result) (l .frames) (l .i) (l .inv .1) 16 (omega arith) (omega arith) (omega arith) ∙ ap (over (take 16 (framesIn b))) (none .ensures)
 
 pub few-of-spec : {M : Type 1} → statement M
 few-of-spec =

@@ -3,11 +3,11 @@ use mathlib.Core.Path.{_≡_, sym, ap, _∙_}
 use Prim.Native.Nat.{_-_, _≤_}
 use native.Mathlib.Omega.{arith}
 use lib.ListN.{length, take}
-use Rattle.paper.specs.Body.{frameOf, framesIn, noFrame, noFrames, batchOf}
+use Rattle.paper.specs.Body.{frameOf, framesIn, noFrames, batchOf}
 use Rattle.paper.specs.Lines.{over}
 use borrow.Author.Needs.{needs}
-use Rattle.paper.proofs.Bodies.{length-frames, frame-at, length-noFrames}
-use Rattle.paper.proofs.Over.{Over, over-start, copy-next, copy-end}
+use Rattle.paper.proofs.Bodies.{length-frames, frame-next, frames-end, length-noFrames}
+use Rattle.paper.proofs.Over.{Over, over-start}
 use Rattle.paper.proofs.body.frames_of.Statement.{statement}
 use Rattle.paper.proofs.body.frames_of.Tie as tie
 
@@ -58,10 +58,8 @@ loop-again c =
     let b = c .before .before .before .before .before .before .before .before .args .body .now in
     let l = c .before .before .before .loop in
     let none = c .before .before .before .before .before .before .no-frames in
-    let many : length (framesIn b) ≡ c .before .before .before .before .before .frame-count .result = length-frames b ∙ sym (c .before .before .before .before .before .frame-count .ensures) in
     let room : length (none .result) ≡ 256 = ap length (none .ensures) ∙ length-noFrames in
-    let is = c .frame-of .ensures ∙ ap frameOf (c .before .past .ensures) ∙ sym (frame-at b (l .i) noFrame (omega arith)) in
-    (omega arith, copy-next (framesIn b) (none .result) (l .frames) (l .i) noFrame (c .frame-of .result) (omega arith) (omega arith) is (l .inv .1))
+    (omega arith, frame-next b (none .result) (l .frames) (l .i) (l .inv .1) (c .frame-of .result) (omega arith) (omega arith) (c .frame-of .ensures ∙ ap frameOf (c .before .past .ensures)))
 
 at-most-requires-2 : tie.Need-at-most-requires-2 Inv-loop μ-loop
 at-most-requires-2 c κs = search needs
@@ -77,7 +75,7 @@ returns c =
     let none = c .before .before .before .before .before .no-frames in
     let many : length (framesIn b) ≡ c .before .before .before .before .frame-count .result = length-frames b ∙ sym (c .before .before .before .before .frame-count .ensures) in
     let full : l .frames ≡ over (take 256 (framesIn b)) noFrames
-    = copy-end (framesIn b) (none .result) (l .frames) 256 (l .i) (omega arith) (omega arith) (omega arith) (l .inv .1) ∙ ap (over (take 256 (framesIn b))) (none .ensures) in
+    = frames-end b (none .result) (l .frames) (l .i) (l .inv .1) 256 (omega arith) (omega arith) (omega arith) ∙ ap (over (take 256 (framesIn b))) (none .ensures) in
     rw (full, c .at-most2 .ensures, ← many)
 
 pub frames-of-spec : {M : Type 1} → statement M

@@ -4,24 +4,18 @@ use mathlib.Core.Path.{refl}
 use contract.Running.{givenOf, tables, tablesOf}
 use denote.Triple.Spec.{tripleOf}
 use denote.Triple.Table.{entered, cited}
-use Rattle.walk.proofs.Fold.{Plainly, of-struct, of-enum}
+use Rattle.walk.proofs.Fold.{Plainly, of-struct}
 use Rattle.walk.proofs.TwoPasses.{Parts, Names, BeginC, PassC, BeginC′, PassC′, FinishC, passes-meet}
 use Rattle.steps.specs.Tally.{bookAll}
 use Rattle.steps.specs.Check.{checkAll}
-use Rattle.rate.specs.Calls.{Frames, step}
 use Rattle.rate.specs.Frames.{beginPass, beginChecks, finishFrames}
 use Rattle.rate.proofs.Passes.{passes-step}
-use Rattle.ladder.proofs.types.Reading as Re
-use Rattle.ladder.proofs.types.Reading.Laws as Re′
+use Rattle.rate.proofs.Plain.{K, Z, Q, h}
 use Rattle.steps.proofs.types.Frame as F
 use Rattle.steps.proofs.check.Check as Ch
 use Rattle.steps.proofs.check.Check.Laws as Ch′
 use Rattle.steps.proofs.booking.Tally as Ta
 use Rattle.steps.proofs.booking.Tally.Laws as Ta′
-use Rattle.rate.proofs.types.RateController as Co
-use Rattle.rate.proofs.types.RateController.Laws as Co′
-use Rattle.rate.proofs.types.Answer as An
-use Rattle.rate.proofs.types.Answer.Laws as An′
 use Rattle.rate.proofs.frames.begin_checks.Symbol as begin-checks-def
 use Rattle.rate.proofs.frames.begin_checks.Symbol.{name as #rate·begin-checks}
 use Rattle.rate.proofs.frames.begin_checks.Met as begin-checks-thm
@@ -42,21 +36,12 @@ use Rattle.rate.proofs.types.RateController.observe_frames as observe-f
 use Rattle.rate.proofs.types.RateController.observe_frames.Statement as stated
 use Rattle.rate.proofs.types.RateController.observe_frames.Code as code
 
--- the types that own only facts: the controller, a reading, what each pass gathers, and the answer
-abbrev K : Plainly
-K = of-struct Co.the-type Co′.the-laws Co′.the-plain (λ x. tt) (λ x f. refl)
-
-abbrev Z : Plainly
-Z = of-enum Re.the-type Re′.the-laws Re′.the-plain tt (λ x. tt) (λ x f. refl)
-
+-- what each pass gathers
 abbrev C : Plainly
 C = of-struct Ch.the-type Ch′.the-laws Ch′.the-plain (λ x. tt) (λ x f. refl)
 
 abbrev Y : Plainly
 Y = of-struct Ta.the-type Ta′.the-laws Ta′.the-plain (λ x. tt) (λ x f. refl)
-
-abbrev Q : Plainly
-Q = of-struct An.the-type An′.the-laws An′.the-plain (λ x. tt) (λ x f. refl)
 
 abbrev X : Parts K Z C Y Q F.the-type
 X = record {
@@ -65,7 +50,7 @@ X = record {
   begin′ = beginPass;
   pass′ = bookAll;
   finish = finishFrames;
-  h = λ k fs snr. step k (Frames fs snr);
+  h = h;
   same = passes-step;
 }
 
