@@ -11,11 +11,12 @@ use Rattle.half.specs.Powers.{powers, powerAt}
 abbrev row : ℕ → List Float
 row k = take 16 (drop (k * 16) powers)
 
-pub in-row : (j k : ℕ) → j / 16 ≡ k → getD (row k) (j % 16) nan ≡ powerAt j
-in-row j k h =
+-- x is the entry that `entry` finds
+pub in-row : (j : ℕ) {k : ℕ} {x : Float} → j / 16 ≡ k → x ≡ getD (row k) (j % 16) nan → x ≡ powerAt j
+in-row j {k} h e =
     let low : j % 16 < 16 = omega arith in
     let place : k * 16 + j % 16 ≡ j = omega arith in
-    rw (getD-take, getD-drop, place) refl
+    rw (e, getD-take, getD-drop, place) refl
 
 -- n is none of the numbers below k, as a match on n finds it after k arms
 abbrev pub None : ℕ → ℕ → Type 0
@@ -29,5 +30,6 @@ from (suc k) n h =
     let d = h .1 in
     omega arith
 
-pub last-row : (j : ℕ) → j < 256 → None 15 (j / 16) → j / 16 ≡ 15
-last-row j b h = let l = from 15 (j / 16) h in omega arith
+-- so where n is at most k, the last arm's number is k
+pub last : {n : ℕ} (k : ℕ) → n < suc k → None k n → n ≡ k
+last {n} k b h = let l = from k n h in omega arith

@@ -2,12 +2,14 @@
 ghost use mathlib.Core.Path.{_≡_};
 ghost use mathlib.Core.Bool.{false};
 ghost use Prim.Native.Nat.{_<_};
-ghost use lib.Ieee.{le};
+ghost use lib.ListN.{getD};
+ghost use lib.Ieee.{le, nan};
 ghost use Rattle.half.specs.Powers.{powerAt};
 ghost use Rattle.half.specs.Power.{f1022, inversePower, wholeSteps, partSteps, series, half};
 
-// The table H: entry j is the f64 nearest to 2 ^ (-j / 256), by the rule of specs/Powers.antt. It stands in 16 rows of 16,
-// since a read of a constant array writes the whole of it to the stack.
+// The table H: entry j is the f64 nearest to 2 ^ (-j / 256), by the rule of specs/Powers.antt. A read of a constant array at a
+// computed index first writes the whole array to the stack; a read at a written-out index is the constant itself. So matches pick
+// the row and the entry, and compile to reads of a table in read-only memory. Rows of 16 keep each match short.
 const ROW_0: [f64; 16] = [
     1.0,
     0.9972960560854701,
@@ -312,6 +314,31 @@ const ROW_15: [f64; 16] = [
     0.5013556375251013,
 ];
 
+// Entry i of a row, each read at a written-out index.
+fn entry(row: [f64; 16], i: usize) -> f64
+    requires { ⌜ i < 16 ⌝ }
+    ensures { λ r. ⌜ r ≡ getD row i nan ⌝ }
+{
+    match i {
+        0 => row[0],
+        1 => row[1],
+        2 => row[2],
+        3 => row[3],
+        4 => row[4],
+        5 => row[5],
+        6 => row[6],
+        7 => row[7],
+        8 => row[8],
+        9 => row[9],
+        10 => row[10],
+        11 => row[11],
+        12 => row[12],
+        13 => row[13],
+        14 => row[14],
+        _ => row[15],
+    }
+}
+
 // H[j]: entry j % 16 of row j / 16.
 fn half_power(j: usize) -> f64
     requires { ⌜ j < 256 ⌝ }
@@ -319,22 +346,22 @@ fn half_power(j: usize) -> f64
 {
     let i = j % 16;
     match j / 16 {
-        0 => ROW_0[i],
-        1 => ROW_1[i],
-        2 => ROW_2[i],
-        3 => ROW_3[i],
-        4 => ROW_4[i],
-        5 => ROW_5[i],
-        6 => ROW_6[i],
-        7 => ROW_7[i],
-        8 => ROW_8[i],
-        9 => ROW_9[i],
-        10 => ROW_10[i],
-        11 => ROW_11[i],
-        12 => ROW_12[i],
-        13 => ROW_13[i],
-        14 => ROW_14[i],
-        _ => ROW_15[i],
+        0 => entry(ROW_0, i),
+        1 => entry(ROW_1, i),
+        2 => entry(ROW_2, i),
+        3 => entry(ROW_3, i),
+        4 => entry(ROW_4, i),
+        5 => entry(ROW_5, i),
+        6 => entry(ROW_6, i),
+        7 => entry(ROW_7, i),
+        8 => entry(ROW_8, i),
+        9 => entry(ROW_9, i),
+        10 => entry(ROW_10, i),
+        11 => entry(ROW_11, i),
+        12 => entry(ROW_12, i),
+        13 => entry(ROW_13, i),
+        14 => entry(ROW_14, i),
+        _ => entry(ROW_15, i),
     }
 }
 

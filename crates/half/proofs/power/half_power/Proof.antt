@@ -3,7 +3,7 @@
 use native.Mathlib.Omega.{arith}
 use borrow.Author.Needs.{needs}
 use Rattle.half.specs.Powers.{powers}
-use Rattle.half.proofs.Rows.{in-row, last-row}
+use Rattle.half.proofs.Rows.{in-row, last}
 use Rattle.half.proofs.power.half_power.Statement.{statement}
 use Rattle.half.proofs.power.half_power.Tie as tie
 
@@ -12,35 +12,27 @@ unfolding powers
 half-power-spec =
     tie.close
     (tie.spec
-    (λ c. search needs) (λ c. search needs)
-    (λ c. search needs) (λ c. search needs)
-    (λ c. search needs) (λ c. search needs)
-    (λ c. search needs) (λ c. search needs)
-    (λ c. search needs) (λ c. search needs)
-    (λ c. search needs) (λ c. search needs)
-    (λ c. search needs) (λ c. search needs)
-    (λ c. search needs) (λ c. search needs)
-    (λ c. search needs) (λ c. search needs)
-    (λ c. search needs) (λ c. search needs)
-    (λ c. search needs) (λ c. search needs)
-    (λ c. search needs) (λ c. search needs)
-    (λ c. search needs) (λ c. search needs)
-    (λ c. search needs) (λ c. search needs)
-    (λ c. search needs) (λ c. search needs)
-    (λ c. search needs) (λ c. search needs)
-    (λ c. in-row (c .before .args .j) 0 (omega arith))
-    (λ c. in-row (c .before .args .j) 1 (omega arith))
-    (λ c. in-row (c .before .args .j) 2 (omega arith))
-    (λ c. in-row (c .before .args .j) 3 (omega arith))
-    (λ c. in-row (c .before .args .j) 4 (omega arith))
-    (λ c. in-row (c .before .args .j) 5 (omega arith))
-    (λ c. in-row (c .before .args .j) 6 (omega arith))
-    (λ c. in-row (c .before .args .j) 7 (omega arith))
-    (λ c. in-row (c .before .args .j) 8 (omega arith))
-    (λ c. in-row (c .before .args .j) 9 (omega arith))
-    (λ c. in-row (c .before .args .j) 10 (omega arith))
-    (λ c. in-row (c .before .args .j) 11 (omega arith))
-    (λ c. in-row (c .before .args .j) 12 (omega arith))
-    (λ c. in-row (c .before .args .j) 13 (omega arith))
-    (λ c. in-row (c .before .args .j) 14 (omega arith))
-    (λ c. let j = c .before .args .j in in-row j 15 (last-row j (c .before .pre) (c .match .rest))))
+    (λ c κs. search needs) (λ c κs. search needs)
+    (λ c κs. search needs) (λ c κs. search needs)
+    (λ c κs. search needs) (λ c κs. search needs)
+    (λ c κs. search needs) (λ c κs. search needs)
+    (λ c κs. search needs) (λ c κs. search needs)
+    (λ c κs. search needs) (λ c κs. search needs)
+    (λ c κs. search needs) (λ c κs. search needs)
+    (λ c κs. search needs) (λ c κs. search needs)
+    (λ c. in-row (c .before .before .args .j) (c .before .match .keys1) (c .entry .ensures))
+    (λ c. in-row (c .before .before .args .j) (c .before .match .keys2) (c .entry2 .ensures))
+    (λ c. in-row (c .before .before .args .j) (c .before .match .keys3) (c .entry3 .ensures))
+    (λ c. in-row (c .before .before .args .j) (c .before .match .keys4) (c .entry4 .ensures))
+    (λ c. in-row (c .before .before .args .j) (c .before .match .keys5) (c .entry5 .ensures))
+    (λ c. in-row (c .before .before .args .j) (c .before .match .keys6) (c .entry6 .ensures))
+    (λ c. in-row (c .before .before .args .j) (c .before .match .keys7) (c .entry7 .ensures))
+    (λ c. in-row (c .before .before .args .j) (c .before .match .keys8) (c .entry8 .ensures))
+    (λ c. in-row (c .before .before .args .j) (c .before .match .keys9) (c .entry9 .ensures))
+    (λ c. in-row (c .before .before .args .j) (c .before .match .keys10) (c .entry10 .ensures))
+    (λ c. in-row (c .before .before .args .j) (c .before .match .keys11) (c .entry11 .ensures))
+    (λ c. in-row (c .before .before .args .j) (c .before .match .keys12) (c .entry12 .ensures))
+    (λ c. in-row (c .before .before .args .j) (c .before .match .keys13) (c .entry13 .ensures))
+    (λ c. in-row (c .before .before .args .j) (c .before .match .keys14) (c .entry14 .ensures))
+    (λ c. in-row (c .before .before .args .j) (c .before .match .keys15) (c .entry15 .ensures))
+    (λ c. let b = c .before .before .pre in in-row (c .before .before .args .j) (last 15 (omega arith) (c .before .match .rest)) (c .entry16 .ensures)))
