@@ -13,7 +13,7 @@ use Rattle.limits.specs.declared.refusal.Verdict.{Verdict}
 use Rattle.limits.specs.declared.refusal.Verdict.the-variants.{Accepted, Refused}
 use Rattle.limits.specs.declared.refusal.Refusal.{Refusal}
 use Rattle.limits.specs.declared.refusal.Refusal.the-variants.{ColumnSize, ColumnsDiffer, TableValue}
-use Rattle.ladder.specs.Lists.{every, select, someFrom, filled}
+use Rattle.ladder.specs.Lists.{every, tabulate, select, someFrom, filled}
 use Rattle.ladder.specs.Types.{Rung, Front, rung}
 use Rattle.ladder.specs.Columns.{okSize}
 pub use Rattle.ladder.specs.declared.front.Usable.{Usable}
@@ -34,6 +34,10 @@ worth payload time = ofNat (dataOf payload) ⊘ time
 -- of the rung r
 abbrev pub worthAt : List ℕ → List Float → ℕ → Float
 worthAt payloads times r = worth (getD payloads r 0) (getD times r f1)
+
+-- of each rung, as an array of 32; past the last rung it is 0/1
+unfoldable pub worthsOf : List ℕ → List Float → List Float
+worthsOf payloads times = tabulate 32 0 (worthAt payloads times)
 
 -- "another has worth at least as great and threshold at most as high": o is another than r, and has
 abbrev pub beats : List Float → List ℕ → List Float → ℕ → ℕ → Bool

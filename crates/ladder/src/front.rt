@@ -1,9 +1,10 @@
 // The front: the rungs of a ladder that are worth offering. Only what the columns say of themselves is tested here; a table's other refusals are table.rt's.
-ghost use mathlib.Core.List.{[]};
+ghost use mathlib.Core.List.{List, []};
 ghost use mathlib.Core.Path.{_≡_};
-ghost use Prim.Native.Nat.{_<_, _≤_};
+ghost use Prim.Native.Nat.{ℕ, _<_, _≤_};
 ghost use lib.ListN.{length};
-ghost use Rattle.ladder.specs.Front.{OneLength, dataOf, worth, worthAt, beats, beaten, frontOf, frontAs, frontVerdict, refusedFront, usableOf, usableByPayload};
+ghost use lib.Ieee.{Float};
+ghost use Rattle.ladder.specs.Front.{OneLength, dataOf, worth, worthAt, worthsOf, beats, beaten, frontOf, frontAs, frontVerdict, refusedFront, usableOf, usableByPayload};
 ghost use Rattle.ladder.specs.Airs.{wideThresholds, widePayloads, wideTimes};
 use crate::airs::AWGN_THRESHOLD_DB;
 use crate::airs::FRAME_S;
@@ -41,38 +42,57 @@ fn worth(payload: u32, time: f64) -> f64
     data_of(payload) as f64 / time
 }
 
-// The worth of rung `m`.
+// The worth of rung `m`, and 0.0 past the last rung.
 fn worth_at(payload: &[u32], frame_s: &[f64], m: usize) -> f64
-    requires { ⌜ (m < length (now payload)) × (m < length (now «frame_s»)) ⌝ }
+    requires { ⌜ length (now payload) ≡ length (now «frame_s») ⌝ }
     ensures { λ r. ⌜ r ≡ worthAt (now (payload .entry)) (now («frame_s» .entry)) m ⌝ }
 {
+    if m >= payload.len() {
+        return 0.0;
+    }
     worth(payload[m], frame_s[m])
 }
 
-// Whether rung `other` is another than rung `m`, worth at least as much, and has a threshold at most as high.
-fn beats(thresholds: &[f64], payload: &[u32], frame_s: &[f64], m: usize, other: usize) -> bool
-    requires { ⌜ OneLength (now thresholds) (now payload) (now «frame_s») ⌝ }
+// The worth of each rung, divided once, and past the last rung 0.0.
+fn worths_of(payload: &[u32], frame_s: &[f64]) -> [f64; 32]
+    requires { ⌜ length (now payload) ≡ length (now «frame_s») ⌝ }
+    ensures { λ r. ⌜ r ≡ worthsOf (now (payload .entry)) (now («frame_s» .entry)) ⌝ }
+{
+    let mut worths = [0.0; 32];
+    let mut m = 0;
+    while m < 32 {
+        let worth = worth_at(payload, frame_s, m);
+        worths[m] = worth;
+        m += 1;
+    }
+    worths
+}
+
+// Whether rung `other` is another than rung `m`, worth at least as much, and has a threshold at most as high: in the columns that the worths
+// are of.
+fn beats(thresholds: &[f64], worths: &[f64], m: usize, other: usize) -> bool
+    requires { ⌜ length (now thresholds) ≤ length (now worths) ⌝ }
     requires { ⌜ (m < length (now thresholds)) × (other < length (now thresholds)) ⌝ }
-    ensures { λ r. ⌜ r ≡ beats (now (thresholds .entry)) (now (payload .entry)) (now («frame_s» .entry)) m other ⌝ }
+    ensures { λ r. ⌜ ((payloads : List ℕ) (times : List Float) → now (worths .entry) ≡ worthsOf payloads times → r ≡ beats (now (thresholds .entry)) payloads times m other) ⌝ }
 {
     if other == m {
         return false;
     }
-    if worth_at(payload, frame_s, other) >= worth_at(payload, frame_s, m) {
+    if worths[other] >= worths[m] {
         return thresholds[other] <= thresholds[m];
     }
     false
 }
 
-// Whether rung `m` is left off: another beats it.
-fn is_beaten(thresholds: &[f64], payload: &[u32], frame_s: &[f64], m: usize) -> bool
-    requires { ⌜ OneLength (now thresholds) (now payload) (now «frame_s») ⌝ }
+// Whether rung `m` is left off: another beats it, in the columns that the worths are of.
+fn is_beaten(thresholds: &[f64], worths: &[f64], m: usize) -> bool
+    requires { ⌜ length (now thresholds) ≤ length (now worths) ⌝ }
     requires { ⌜ m < length (now thresholds) ⌝ }
-    ensures { λ r. ⌜ r ≡ beaten (now (thresholds .entry)) (now (payload .entry)) (now («frame_s» .entry)) m ⌝ }
+    ensures { λ r. ⌜ ((payloads : List ℕ) (times : List Float) → now (worths .entry) ≡ worthsOf payloads times → r ≡ beaten (now (thresholds .entry)) payloads times m) ⌝ }
 {
     let mut other = 0;
     while other < thresholds.len() {
-        if beats(thresholds, payload, frame_s, m, other) {
+        if beats(thresholds, worths, m, other) {
             return true;
         }
         other += 1;
@@ -95,12 +115,13 @@ pub(crate) fn front_of(thresholds: &[f64], payload: &[u32], frame_s: &[f64]) -> 
     requires { ⌜ length (now thresholds) ≤ 32 ⌝ }
     ensures { λ r. ⌜ r ≡ frontAs (frontOf (now (thresholds .entry)) (now (payload .entry)) (now («frame_s» .entry))) ⌝ }
 {
+    let worths = worths_of(payload, frame_s);
     let none = Rung(0);
     let mut rungs = [none; 32];
     let mut places = 0;
     let mut m = 0;
     while m < thresholds.len() {
-        if !is_beaten(thresholds, payload, frame_s, m) {
+        if !is_beaten(thresholds, &worths, m) {
             let number = m as u32;
             let rung = Rung(number);
             rungs[places] = rung;

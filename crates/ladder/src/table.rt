@@ -7,7 +7,7 @@ ghost use lib.ListN.{length};
 ghost use Rattle.ladder.specs.Types.{noRow};
 ghost use Rattle.ladder.specs.Columns.{okSize};
 ghost use Rattle.ladder.specs.Front.{OneLength};
-ghost use Rattle.ladder.specs.Tables.{columns, okValues, limitAt, rowOf, rowsOf, tableFrom, refusedTable, tabled, forAir};
+ghost use Rattle.ladder.specs.Tables.{columns, okValues, limitAt, rowOf, rowsOf, tableFrom, blankTable, refusedTable, tabled, forAir};
 use crate::columns;
 use crate::front;
 use crate::types::Front;
@@ -183,14 +183,21 @@ fn table_from(rows: [Row; 32], count: u32, floors: u32, offered: Front) -> Table
     }
 }
 
-// No table, and why.
-fn refused_table(why: Refusal) -> Tabled
-    ensures { λ r. ⌜ r ≡ refusedTable why ⌝ }
+// A table of no rungs.
+pub fn blank_table() -> Table
+    ensures { λ r. ⌜ r ≡ blankTable ⌝ }
 {
     let row = no_row();
     let rows = [row; 32];
     let offered = front::no_front();
-    let table = table_from(rows, 0, 0, offered);
+    table_from(rows, 0, 0, offered)
+}
+
+// No table, and why.
+fn refused_table(why: Refusal) -> Tabled
+    ensures { λ r. ⌜ r ≡ refusedTable why ⌝ }
+{
+    let table = blank_table();
     Tabled {
         verdict: Verdict::Refused(why),
         table,

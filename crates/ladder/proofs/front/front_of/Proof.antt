@@ -10,15 +10,21 @@ use Rattle.ladder.proofs.front.front_of.Statement.{statement}
 use Rattle.ladder.proofs.front.front_of.Tie as tie
 
 abbrev Inv-loop : tie.InvT-loop
-Inv-loop thresholds payload frame-s rungs₀ places₀ m₀ rungs places m =
+Inv-loop thresholds payload frame-s worths rungs₀ places₀ m₀ rungs places m =
     (m ≤ length thresholds) × Filling (beaten thresholds payload frame-s) (length thresholds) m rungs places
 
 abbrev μ-loop : tie.MeasureT-loop
-μ-loop thresholds payload frame-s rungs₀ places₀ m₀ rungs places m = length thresholds - m
+μ-loop thresholds payload frame-s worths rungs₀ places₀ m₀ rungs places m = length thresholds - m
+
+worths-of-requires : tie.Need-worths-of-requires Inv-loop μ-loop
+worths-of-requires c κs = search needs
 
 loop-holds : tie.Need-loop-holds Inv-loop μ-loop
-loop-holds c = let a = c .before .before .before .args in
+loop-holds c = let a = c .before .before .before .before .args in
     (search needs, filling-starts (beaten (a .thresholds .now) (a .payload .now) (a .frame-s .now)) (length (a .thresholds .now)))
+
+slice-aggregate-is-beaten : tie.Need-slice-aggregate-is-beaten Inv-loop μ-loop
+slice-aggregate-is-beaten c = search needs
 
 is-beaten-requires : tie.Need-is-beaten-requires Inv-loop μ-loop
 is-beaten-requires c κs = search needs
@@ -30,7 +36,7 @@ mul-rungs : tie.Need-mul-rungs Inv-loop μ-loop
 mul-rungs c = search needs
 
 array-set-from-rungs : tie.Need-array-set-from-rungs Inv-loop μ-loop
-array-set-from-rungs c = omega (arith, c .before .before .before .loop .inv .1 .within)
+array-set-from-rungs c = omega (arith, c .before .before .before .before .loop .inv .1 .within)
 
 add-places : tie.Need-add-places Inv-loop μ-loop
 add-places c = search needs
@@ -43,12 +49,13 @@ loop-less c = omega arith
 
 loop-again : tie.Need-loop-again Inv-loop μ-loop
 loop-again c =
-    let s = c .before .before .before in
-    let a = s .before .before .before .before .args in
+    let s = c .before .before .before .before in
+    let made = s .before in
+    let a = made .before .before .before .before .args in
     let out = beaten (a .thresholds .now) (a .payload .now) (a .frame-s .now) in
     let n = length (a .thresholds .now) in
     let answer = c .before .is-beaten .result in
-    let said = c .before .is-beaten .ensures in (
+    let said = c .before .is-beaten .ensures (a .payload .now) (a .frame-s .now) (made .worths-of .ensures) in (
       omega arith,
       ⊎-elim
           (λ w. rw (w .1, w .2) (filling-takes out n (s .loop .m) (s .loop .rungs) (s .loop .places) (s .loop .inv .1) answer (omega arith) said (omega arith) (w .0 .taken)))
@@ -63,7 +70,7 @@ returns : tie.Need-returns Inv-loop μ-loop
 unfolding frontOf
 returns c =
     let s = c .before in
-    let a = s .before .before .before .before .args in
+    let a = s .before .before .before .before .before .args in
     filling-ends (beaten (a .thresholds .now) (a .payload .now) (a .frame-s .now)) (length (a .thresholds .now)) (s .loop .m) (s .loop .rungs) (s .loop .places) (s .loop .inv .1) (omega arith)
 
 pub front-of-spec : {M : Type 1} → statement M
@@ -72,7 +79,9 @@ front-of-spec =
     (tie.spec
     Inv-loop
     μ-loop
+    worths-of-requires
     loop-holds
+    slice-aggregate-is-beaten
     is-beaten-requires
     cast-number
     mul-rungs

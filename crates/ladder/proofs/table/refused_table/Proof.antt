@@ -1,22 +1,14 @@
--- `ladder::table::refused_table` meets its contract: the blank table has 32 times the row of no rung, and no front. Assumes nothing.
+-- `ladder::table::refused_table` meets its contract: by what the blank table ensures. Assumes nothing.
 use mathlib.Core.Path.{refl}
 use borrow.Author.Needs.{needs}
-use Rattle.ladder.specs.Tables.{blankTable}
 use Rattle.ladder.proofs.table.refused_table.Statement.{statement}
 use Rattle.ladder.proofs.table.refused_table.Tie as tie
 
-no-row-requires : tie.Need-no-row-requires
-no-row-requires c κs = search needs
-
-no-front-requires : tie.Need-no-front-requires
-no-front-requires c κs = search needs
-
-table-from-requires : tie.Need-table-from-requires
-table-from-requires c κs = search needs
+blank-table-requires : tie.Need-blank-table-requires
+blank-table-requires c κs = search needs
 
 returns : tie.Need-returns
-unfolding blankTable
-returns c = rw (c .table-from .ensures, c .before .no-front .ensures, c .before .before .no-row .ensures) refl
+returns c = rw (c .blank-table .ensures) refl
 
 pub refused-table-spec : {M : Type 1} → statement M
-refused-table-spec = tie.close (tie.spec no-row-requires no-front-requires table-from-requires returns)
+refused-table-spec = tie.close (tie.spec blank-table-requires returns)
