@@ -11,7 +11,7 @@ use Rattle.ladder.specs.Lists.{every}
 use Rattle.limits.specs.Values.{okBurst}
 use Rattle.steps.specs.declared.types.Frame.{Frame}
 use Rattle.paper.specs.Bytes.{byte, le16}
-use Rattle.paper.specs.Body.{allFrom, frameCount, frameBytes, okFlags, frameOf, frameAt, framesIn, burstCount, burstAt, burstsIn, noFrame, noFrames, noFew, noBursts}
+use Rattle.paper.specs.Body.{allFrom, frameCount, frameBytes, okFlags, frameOf, frameAt, framesIn, burstCount, burstAt, burstsIn, noFrame, noFrames, noBursts}
 use Rattle.paper.specs.Lines.{over}
 use Rattle.paper.proofs.Over.{Over, copy-next, copy-end}
 use Rattle.paper.proofs.Ranges.{length-tabulate, tabulate-at, every-tabulate}
@@ -45,10 +45,6 @@ module _ (b : List ℕ) (old new : List Frame) (i : ℕ) (o : Over (take i (fram
 pub length-noFrames : length noFrames ≡ 256
 unfolding noFrames
 length-noFrames = length-replicate 256 noFrame
-
-pub length-noFew : length noFew ≡ 16
-unfolding noFew
-length-noFew = length-replicate 16 noFrame
 
 -- ---- burst counts
 pub length-bursts : (b : List ℕ) → length (burstsIn b) ≡ burstCount b

@@ -1,8 +1,8 @@
 -- A walk over the events of a file, at i: the calls from the i-th on, with their lines and their scores. Assumes nothing.
-use mathlib.Core.Path.{_≡_, refl, sym, ap, _∙_}
+use mathlib.Core.Path.{_≡_, sym, ap, _∙_}
 use mathlib.Core.Bool.{Bool, true, false, cond}
 use mathlib.Core.List.{List, [], _∷_}
-use Prim.Native.Nat.{ℕ, zero, suc, _+_, _-_, _≤_, _<_}
+use Prim.Native.Nat.{ℕ, _+_, _-_, _≤_, _<_}
 use native.Mathlib.Numerals.{add-one}
 use native.Mathlib.Omega.{arith}
 use borrow.Author.Tests.{leb-true, leb-false}
@@ -18,6 +18,7 @@ use Rattle.paper.specs.Body.{callOf}
 use Rattle.paper.specs.File.{eventCount, air, bodyAt, atEnd}
 use Rattle.paper.specs.Sheet.{Line, Score, freshFor, callAt, callsOf, lineOf, lineBytes, linesFrom, sheetOf, scoredBy, scored, scoreFrom, scoreOf}
 use Rattle.paper.proofs.Over.{Next}
+use Rattle.paper.proofs.Ranges.{tabulate-all, tabulate-next, tabulate-none}
 
 -- the calls of the events from i up to n
 unfoldable pub callsFrom : List ℕ → ℕ → ℕ → List Call
@@ -25,19 +26,15 @@ callsFrom s n i = tabulate (n - i) i (callAt s)
 
 calls-start : (s : List ℕ) (n : ℕ) → n ≡ eventCount s → callsFrom s n 0 ≡ callsOf s
 unfolding callsFrom callsOf
-calls-start s n e = let q : n - 0 ≡ n = omega arith in ap (λ m. tabulate m 0 (callAt s)) (q ∙ e)
+calls-start s n e = tabulate-all (callAt s) n ∙ ap (λ m. tabulate m 0 (callAt s)) e
 
 calls-next : (s : List ℕ) (n i : ℕ) → i < n → callsFrom s n i ≡ callAt s i ∷ callsFrom s n (i + 1)
 unfolding callsFrom
-calls-next s n i h = go (n - i) refl
-  where
-    go : (m : ℕ) → m ≡ n - i → tabulate m i (callAt s) ≡ callAt s i ∷ tabulate (n - (i + 1)) (i + 1) (callAt s)
-    go zero e = absurd (omega arith)
-    go (suc m) e = let q : m ≡ n - (i + 1) = omega arith in rw (← q, add-one)
+calls-next s n i h = tabulate-next (callAt s) n i h
 
 calls-end : (s : List ℕ) (n i : ℕ) → n ≤ i → callsFrom s n i ≡ []
 unfolding callsFrom
-calls-end s n i h = let q : n - i ≡ 0 = omega arith in rw q
+calls-end s n i h = tabulate-none (callAt s) n i h
 
 -- the answer to the i-th event's body, as a call gave it
 pub answer-at : (s : List ℕ) (i : ℕ) (k : RateController) (a : Answer) (body : List ℕ) → a ≡ step k (callOf body) → body ≡ bodyAt s i → a ≡ step k (callAt s i)

@@ -21,7 +21,7 @@ use Rattle.rate.specs.Calls.{Frames, Price, verdict, refused, step}
 use Rattle.rate.specs.Frames.{heldFrames}
 use Rattle.rate.proofs.ByKind.{price-outside, price-too-many}
 use Rattle.rate.proofs.Passes.{held-step}
-use Rattle.paper.specs.Body.{Batch, Bursts, noFrames, noFew, noBursts, batchOf, fewOf, burstsOf}
+use Rattle.paper.specs.Body.{Batch, Bursts, noFrames, noBursts, batchOf, burstsOf}
 use Rattle.paper.specs.Lines.{over}
 use Rattle.paper.proofs.Over.{over-length}
 use Rattle.paper.proofs.Bodies.{length-noBursts}
@@ -101,8 +101,3 @@ frames-held k fs snr b e = rw e (go (leb (length fs) 256) refl)
     go false q =
         let many : 256 < length fs = leb-false (length fs) 256 q in
         held-many k (over (take 256 fs) noFrames) (min 257 (length fs)) snr (omega arith) ∙ sym (step-many k fs snr many)
-
--- a short list is held whole: xs and n are what calls gave
-pub few-held : (k : RateController) (fs xs : List Frame) (n : ℕ) (snr : Reading) → xs ≡ fewOf fs → n ≡ length fs → n ≤ 16 → step k (Frames (take n xs) snr) ≡ step k (Frames fs snr)
-unfolding fewOf
-few-held k fs xs n snr e f h = ap (λ (gs : List Frame). step k (Frames gs snr)) (rw e (held 16 n fs noFew (omega arith) f))

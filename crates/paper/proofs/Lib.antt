@@ -2,6 +2,7 @@ pub mod Nan
 pub mod Ranges
 pub mod Over
 pub mod Bodies
+pub mod FrameWalk
 pub mod Pairs
 pub mod Decimal
 pub mod Rows
@@ -11,3 +12,5 @@ pub mod Events
 pub mod Starting
 pub mod Printed
 pub mod Readers
+pub mod Playing
+pub mod Light

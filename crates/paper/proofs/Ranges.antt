@@ -1,6 +1,7 @@
 -- A walk over the numbers from 0 up to n, at i: what is left is what passes from i on, and the list that is made from i on. Assumes nothing.
 use mathlib.Core.Path.{_≡_, refl, sym, ap, _∙_}
 use mathlib.Core.Bool.{Bool, true, false, _&&_}
+use mathlib.Core.List.{[], _∷_}
 use Prim.Native.Nat.{ℕ, zero, suc, _+_, _-_, _≤_, _<_}
 use native.Mathlib.Numerals.{add-one}
 use native.Mathlib.Omega.{arith}
@@ -46,3 +47,14 @@ pub every-tabulate : {A : Type 0} (n i : ℕ) (f : ℕ → A) (g : A → Bool) �
 unfolding allFrom
 every-tabulate zero i f g = refl
 every-tabulate (suc n) i f g = rw (every-tabulate n (suc i) f g)
+
+-- what is left of it at i: at first all, then one less, in the end none
+module _ {A : Type 0} (f : ℕ → A) (n : ℕ) where
+  pub tabulate-all : tabulate (n - 0) 0 f ≡ tabulate n 0 f
+  tabulate-all = let q : n - 0 ≡ n = omega arith in ap (λ m. tabulate m 0 f) q
+
+  pub tabulate-next : (i : ℕ) → i < n → tabulate (n - i) i f ≡ f i ∷ tabulate (n - (i + 1)) (i + 1) f
+  tabulate-next i h = let q : n - i ≡ suc (n - (i + 1)) = omega arith in rw (q, add-one i) refl
+
+  pub tabulate-none : (i : ℕ) → n ≤ i → tabulate (n - i) i f ≡ []
+  tabulate-none i h = let q : n - i ≡ 0 = omega arith in rw q

@@ -119,19 +119,12 @@ noFrame = record { rung = rung 0; detected = false; decoded = false; combined = 
 unfoldable pub noFrames : List Frame
 noFrames = replicate 256 noFrame
 
-unfoldable pub noFew : List Frame
-noFew = replicate 16 noFrame
-
 unfoldable pub noBursts : List ℕ
 noBursts = replicate 32 0
 
 -- frames as an array of 256 and their number, counted no further than what decides: 257 is "over 256 frames"
 unfoldable pub batchOf : List Frame → Batch
 batchOf fs = record { frames = over (take 256 fs) noFrames; count = min 257 (length fs) }
-
--- frames as an array of 16, which holds all of a short list
-unfoldable pub fewOf : List Frame → List Frame
-fewOf fs = over (take 16 fs) noFew
 
 -- burst counts as an array of 32, their number, counted no further than 33, "over 32 burst counts", and whether each of them all is within its limit
 unfoldable pub burstsOf : List ℕ → Bursts

@@ -4,7 +4,7 @@ ghost use Prim.Native.Nat.{min};
 ghost use lib.ListN.{length};
 ghost use Rattle.ladder.specs.Lists.{every};
 ghost use Rattle.limits.specs.Values.{okBurst};
-ghost use Rattle.paper.specs.Body.{allFrom, frameCount, okFlags, okFrames, frameOf, framesIn, noFrame, noFrames, noFew, fewOf, okEcho, okSilence, okSnr, okFamilies, okPrices, burstCount, burstsIn, noBursts, okSeed, okBody, batchOf, burstsOf};
+ghost use Rattle.paper.specs.Body.{allFrom, frameCount, okFlags, okFrames, frameOf, framesIn, noFrame, noFrames, okEcho, okSilence, okSnr, okFamilies, okPrices, burstCount, burstsIn, noBursts, okSeed, okBody, batchOf, burstsOf};
 use crate::bytes::byte_at;
 use crate::bytes::f64_of;
 use crate::bytes::ok_reading;
@@ -140,7 +140,7 @@ pub fn ok_body(body: &[u8]) -> bool
 }
 
 // The frame that stands at the start of the bytes.
-fn frame_of(bytes: &[u8]) -> Frame
+pub(crate) fn frame_of(bytes: &[u8]) -> Frame
     ensures { λ r. ⌜ r ≡ frameOf (now (bytes .entry)) ⌝ }
 {
     let rung = Rung(byte_at(bytes, 0));
@@ -177,13 +177,6 @@ fn no_frames() -> [Frame; 256]
     [blank; 256]
 }
 
-fn no_few() -> [Frame; 16]
-    ensures { λ r. ⌜ r ≡ noFew ⌝ }
-{
-    let blank = no_frame();
-    [blank; 16]
-}
-
 // The frames of a body of frames.
 pub fn frames_of(body: &[u8]) -> Batch
     ensures { λ r. ⌜ r ≡ batchOf (framesIn (now (body .entry))) ⌝ }
@@ -199,19 +192,6 @@ pub fn frames_of(body: &[u8]) -> Batch
         frames,
         count: at_most(257, n) as u32,
     }
-}
-
-// The first 16 frames of a body of frames: most bodies have no more, and the array of 256 would cost them more than all else.
-pub fn few_of(body: &[u8]) -> [Frame; 16]
-    ensures { λ r. ⌜ r ≡ fewOf (framesIn (now (body .entry))) ⌝ }
-{
-    let mut frames = no_few();
-    let kept = at_most(16, frame_count(body));
-    for i in 0..kept {
-        let frame = frame_of(past(body, 10 + 12 * i));
-        frames[i] = frame;
-    }
-    frames
 }
 
 // How many burst counts a body of prices has.

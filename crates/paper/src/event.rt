@@ -6,8 +6,6 @@ ghost use Rattle.rate.specs.Calls.{step, Frames, Echo, Silence, Snr, Seed, Pric
 ghost use Rattle.paper.specs.Bytes.{byte, le32, float, readingOf};
 ghost use Rattle.paper.specs.Body.{framesIn, burstsIn, callOf};
 use crate::body::bursts_of;
-use crate::body::few_of;
-use crate::body::frame_count;
 use crate::body::frames_of;
 use crate::bytes::byte_at;
 use crate::bytes::f64_of;
@@ -22,10 +20,6 @@ fn frames_event(k: RateController, body: &[u8]) -> Answer
     ensures { λ r. ⌜ r ≡ step k (Frames (framesIn (now (body .entry))) (readingOf (drop 1 (now (body .entry))))) ⌝ }
 {
     let snr = reading_of(past(body, 1));
-    let n = frame_count(body);
-    if n <= 16 {
-        return rate::frames::observe_few(k, few_of(body), n, snr);
-    }
     let batch = frames_of(body);
     let frames = batch.frames;
     let count = batch.count as usize;
@@ -52,7 +46,7 @@ fn snr_event(k: RateController, body: &[u8]) -> Answer
     k.observe_snr(reading_of(past(body, 1)))
 }
 
-fn families_event(k: RateController, body: &[u8]) -> Answer
+pub(crate) fn families_event(k: RateController, body: &[u8]) -> Answer
     ensures { λ r. ⌜ r ≡ step k (Family (eqb (byte (now (body .entry)) 1) 1) (eqb (byte (now (body .entry)) 2) 1)) ⌝ }
 {
     let own_floor = byte_at(body, 1) == 1;
@@ -79,7 +73,7 @@ fn price_bursts(k: RateController, floor: f64, ordinary: f64, gap: f64, body: &[
     k.price_exchanges(floor, ordinary, gap, &counts[..count])
 }
 
-fn prices_event(k: RateController, body: &[u8]) -> Answer
+pub(crate) fn prices_event(k: RateController, body: &[u8]) -> Answer
     ensures { λ r. ⌜ r ≡ step k (Price (float (drop 1 (now (body .entry)))) (float (drop 9 (now (body .entry)))) (float (drop 17 (now (body .entry)))) (burstsIn (now (body .entry)))) ⌝ }
 {
     let floor = f64_of(past(body, 1));

@@ -1,40 +1,61 @@
 // The sheet of a question file: one pass over its events writes it, to the slice where even the longest lines would have room, else by way of an array.
 ghost use mathlib.Core.Path.{_≡_};
 ghost use Prim.Native.Nat.{_*_, _≤_};
+ghost use mathlib.Core.List.{[]};
 ghost use lib.ListN.{length};
+ghost use Rattle.account.specs.State.{unpriced};
+ghost use Rattle.rate.specs.Reads.{probingIn};
+ghost use Rattle.play.specs.Held.{rowsOf, frontOf, answerOf};
 ghost use Rattle.paper.specs.File.{eventCount};
 ghost use Rattle.paper.specs.Lines.{over};
 ghost use Rattle.paper.specs.Sheet.{lineOf, sheetOf, roomVerdict, sheetBy, sheetAnswer, leftBy, sheetLeft, refusedBytes, fitting, printedIn};
-use crate::event::answer_event;
 use crate::file::air;
 use crate::file::event_count;
 use crate::lines::write_line;
 use crate::lines::write_refused;
+use crate::player::play_event;
+use crate::player::prices_after;
 use crate::reader::read_body;
 use crate::reader::read_end;
-use crate::start::fresh_for;
+use crate::start::table_of;
 use crate::text::write_bytes;
 use crate::types::Line;
 use crate::types::Sheet;
 use crate::verdict::file_verdict;
-use ladder::types::Rung;
+use account::state::PROBE_EVERY;
+use account::types::Trying;
+use ladder::types::Table;
 use limits::refusal::Refusal;
 use limits::refusal::Verdict;
-use rate::types::Answer;
+use play::types::Moved;
+use rate::types::Probing;
 
-// What an event's line says of its answer.
-fn line_of(a: Answer) -> Line
-    ensures { λ r. ⌜ r ≡ lineOf a ⌝ }
+// Whether a try runs, and of which rung.
+fn tried_of(y: Trying) -> Probing
+    ensures { λ r. ⌜ r ≡ probingIn y ⌝ }
 {
-    let verdict = a.verdict;
+    match y {
+        Trying::Nothing => Probing::Nothing,
+        Trying::Running(r, _, _) => Probing::At(r),
+    }
+}
+
+// What an event's line says of what its call left and returned.
+fn line_of(t: Table, rows: &[f64], front: &[u32], m: Moved) -> Line
+    requires { ⌜ now rows ≡ rowsOf t ⌝ }
+    requires { ⌜ now front ≡ frontOf t ⌝ }
+    ensures { λ r. ⌜ r ≡ lineOf (answerOf t unpriced [] [] [] m) ⌝ }
+{
+    let verdict = m.verdict;
     match verdict {
         Verdict::Accepted => {
-            let k = a.controller;
-            let t = k.table;
-            let choice = k.choice();
-            let tried = k.probing();
-            let ofdm = k.refuses(Rung(t.floors));
-            Line::Answered(choice, tried, ofdm, a.ended, a.begun)
+            let c = m.core;
+            let place = c.place;
+            let trying = c.trying;
+            let choice = play::read::rung_in(t, front, place);
+            let tried = tried_of(trying);
+            let ofdm = play::echo::refuses_ofdm(t, rows, front, c);
+            Line::Answered(choice, tried, ofdm, m.ended, m.begun)
         }
         Verdict::Refused(why) => Line::Refused(why),
     }
@@ -46,16 +67,41 @@ fn write_lines(file: &[u8], out: &mut [u8]) -> usize
     ensures { λ r. ⌜ (r ≡ length (sheetOf (now (file .entry)))) × (r ≤ length (now (out .entry))) ⌝ }
     ensures { λ r. ⌜ now (out .exit) ≡ over (sheetOf (now (file .entry))) (now (out .entry)) ⌝ }
 {
-    let mut k = fresh_for(air(file));
+    let t = table_of(air(file));
+    let rows = play::read::rows_of(t);
+    let front = play::read::front_of(t);
+    let mut fades = [0.0f64; 96];
+    let mut books = [0.0f64; 96];
+    let mut since = [0.0f64; 32];
+    let mut wait = [PROBE_EVERY; 32];
+    let mut c = play::core::fresh_core();
+    let mut p = account::state::unpriced_prices();
+    let mut last = 0.0;
     let mut len: usize = 0;
     let mut i: u32 = 0;
     while !read_end(file, i) {
-        let a = answer_event(k, read_body(file, i));
-        let line = line_of(a);
+        let body = read_body(file, i);
+        let a = play_event(
+            t,
+            p,
+            &rows,
+            &front,
+            &mut fades,
+            &mut books,
+            &mut since,
+            &mut wait,
+            c,
+            last,
+            body,
+        );
+        let m = a.moved;
+        let line = line_of(t, &rows, &front, m);
         let took = write_line(&mut out[len..], i + 1, line);
         len += took;
-        let next = a.controller;
-        k = next;
+        p = prices_after(p, body);
+        let next = m.core;
+        c = play::core::same_core(next);
+        last = a.faded;
         i += 1;
     }
     len

@@ -1,34 +1,41 @@
-// The controller that a question file starts with: fresh, with its air's table and settings.
+// What a question file starts with: the table of its air, with the air's settings, and a fresh controller.
 ghost use mathlib.Core.Path.{_≡_};
 ghost use mathlib.Core.Bool.{true, false};
 ghost use Rattle.ladder.specs.Tables.{tableOf, forAir};
 ghost use Rattle.ladder.specs.Airs.{wideAir, narrowAir};
-ghost use Rattle.rate.specs.Calls.{freshController};
 ghost use Rattle.paper.specs.Sheet.{freshFor};
+use ladder::types::Table;
 use rate::types::RateController;
 
-fn start_wide() -> RateController
-    ensures { λ r. ⌜ r ≡ freshController (forAir (tableOf wideAir) true) ⌝ }
+fn start_wide() -> Table
+    ensures { λ r. ⌜ r ≡ forAir (tableOf wideAir) true ⌝ }
 {
     let made = ladder::airs::wide_table();
     let t = made.table;
-    rate::make::fresh(t).for_air(true)
+    ladder::table::for_air(t, true)
 }
 
-fn start_narrow() -> RateController
-    ensures { λ r. ⌜ r ≡ freshController (forAir (tableOf narrowAir) false) ⌝ }
+fn start_narrow() -> Table
+    ensures { λ r. ⌜ r ≡ forAir (tableOf narrowAir) false ⌝ }
 {
     let made = ladder::airs::narrow_table();
     let t = made.table;
-    rate::make::fresh(t).for_air(false)
+    ladder::table::for_air(t, false)
 }
 
-// The air's number: 1 wide, else narrow.
-pub(crate) fn fresh_for(air: u32) -> RateController
-    ensures { λ r. ⌜ r ≡ freshFor air ⌝ }
+// The table of an air by its number: 1 wide, else narrow.
+pub(crate) fn table_of(air: u32) -> Table
+    ensures { λ r. ⌜ r ≡ freshFor air .table ⌝ }
 {
     if air == 1 {
         return start_wide();
     }
     start_narrow()
+}
+
+// A fresh controller of an air.
+pub(crate) fn fresh_for(air: u32) -> RateController
+    ensures { λ r. ⌜ r ≡ freshFor air ⌝ }
+{
+    rate::make::fresh(table_of(air))
 }

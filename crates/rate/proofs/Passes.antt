@@ -31,7 +31,7 @@ over-256 n =
     ]
 
 module _ (k : RateController) (fs : List Frame) (snr : Reading) where
-  same-verdict : framesVerdict (checkAll (beginChecks k) fs) snr ≡ verdict (k .table) (Frames fs snr)
+  pub same-verdict : framesVerdict (checkAll (beginChecks k) fs) snr ≡ verdict (k .table) (Frames fs snr)
   unfolding beginChecks framesVerdict verdict
   same-verdict = rw (counts-frames (k .table) fs, finds-first-bad (k .table) fs, over-256 (length fs)) refl
 

@@ -13,7 +13,7 @@ use limits::refusal::Refusal;
 use limits::refusal::Verdict;
 
 // Whether a try that ran before does not run on: none runs, or another was begun.
-fn was_ended(before: Trying, after: Trying, begun: bool) -> bool
+pub fn was_ended(before: Trying, after: Trying, begun: bool) -> bool
     ensures { λ b. ⌜ b ≡ (runs before && (begun || not (runs after))) ⌝ }
 {
     if account::state::is_running(before) {

@@ -9,7 +9,7 @@ use ladder::types::Reading;
 use limits::refusal::Refusal;
 
 // Whether an echo reading is within its limits; of a missing share the SNR is not looked at.
-fn ok_echo(share: Reading, snr_db: f64) -> bool
+pub fn ok_echo(share: Reading, snr_db: f64) -> bool
     ensures { λ b. ⌜ b ≡ okEcho share «snr_db» ⌝ }
 {
     match share {

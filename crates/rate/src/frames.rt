@@ -57,7 +57,7 @@ fn snr_verdict(snr: Reading) -> Verdict
 }
 
 // The whole call: 7 first, then the first bad frame, then the SNR.
-fn frames_verdict(v: Check, snr: Reading) -> Verdict
+pub fn frames_verdict(v: Check, snr: Reading) -> Verdict
     ensures { λ z. ⌜ z ≡ framesVerdict v snr ⌝ }
 {
     if v.count > MOST {
@@ -127,24 +127,6 @@ fn lend_frames(k: RateController, frames: [Frame; 256], n: usize, snr: Reading) 
     ensures { λ r. ⌜ r ≡ step k (Frames (take n frames) snr) ⌝ }
 {
     k.observe_frames(&frames[..n], snr)
-}
-
-// The first n frames of a short array, lent.
-fn lend_few(k: RateController, frames: [Frame; 16], n: usize, snr: Reading) -> Answer
-    requires { ⌜ n ≤ 16 ⌝ }
-    ensures { λ r. ⌜ r ≡ step k (Frames (take n frames) snr) ⌝ }
-{
-    k.observe_frames(&frames[..n], snr)
-}
-
-// `observe_frames` for a caller that holds its frames in a short array: `count` of them, or all 16. Refused: 6, 8.
-pub fn observe_few(k: RateController, frames: [Frame; 16], count: usize, snr: Reading) -> Answer
-    ensures { λ r. ⌜ r ≡ step k (Frames (take count frames) snr) ⌝ }
-{
-    if count > 16 {
-        return lend_few(k, frames, 16, snr);
-    }
-    lend_few(k, frames, count, snr)
 }
 
 // `observe_frames` for a caller that holds its frames in an array, `count` of them; over 256 have no room in it. Refused: 6, 7, 8.

@@ -1,4 +1,5 @@
 pub mod Usable
+pub mod Walks
 pub mod Ranges
 pub mod Greatest
 pub mod Set

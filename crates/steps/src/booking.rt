@@ -21,7 +21,7 @@ use ladder::types::Table;
 const HALF_LIFE: f64 = 12.0;
 
 // What a frame's own rung ages by: half(1/12).
-const OWN_FADE: f64 = 0.9438743126816935;
+pub const OWN_FADE: f64 = 0.9438743126816935;
 
 // The ends of an offset, in dB.
 const OFFSET_MIN: f64 = -5.0;
@@ -184,7 +184,7 @@ pub fn gain_frame(f: Frame, a: Account) -> Account
 }
 
 // Whether there is a last frame time, and the rung's is the same.
-fn is_same(time: f64, last: f64) -> bool
+pub fn is_same(time: f64, last: f64) -> bool
     ensures { λ z. ⌜ z ≡ (lt f0 last && eq time last) ⌝ }
 {
     if last > 0.0 { time == last } else { false }

@@ -122,7 +122,7 @@ pub fn improve_usable(t: Table, p: Prices, s: State, i: Place, best: Best) -> Be
     }
 }
 
-fn at_most_32(i: u32) -> u32
+pub fn at_most_32(i: u32) -> u32
     ensures { λ n. ⌜ n ≡ min 32 i ⌝ }
 {
     if i < 32 { i } else { 32 }
@@ -195,7 +195,7 @@ pub fn observe_echo(t: Table, p: Prices, s: State, share: Reading, snr: f64) -> 
 }
 
 // ---- `silent`
-fn at_most_31(i: u32) -> u32
+pub fn at_most_31(i: u32) -> u32
     ensures { λ n. ⌜ n ≡ min 31 i ⌝ }
 {
     if i < 31 { i } else { 31 }
@@ -215,7 +215,7 @@ fn highest_from(t: Table, s: State, top: u32) -> u32
     0
 }
 
-fn less(a: u32, b: u32) -> u32
+pub fn less(a: u32, b: u32) -> u32
     ensures { λ n. ⌜ n ≡ a - b ⌝ }
 {
     if a < b { 0 } else { a - b }

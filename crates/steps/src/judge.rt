@@ -9,7 +9,7 @@ use ladder::types::Rung;
 use ladder::types::Table;
 
 // Whether the rung r is being tried.
-fn is_trying(y: Trying, r: Rung) -> bool
+pub fn is_trying(y: Trying, r: Rung) -> bool
     ensures { λ b. ⌜ b ≡ tries y (r .0) ⌝ }
 {
     match y {

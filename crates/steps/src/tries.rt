@@ -27,7 +27,7 @@ use ladder::types::Table;
 // The longest wait before a rung is tried, in full transmissions, and how far under its wait in seconds a time may be.
 const PROBE_WAIT_MAX: u32 = 48;
 
-const WAIT_TOLERANCE_S: f64 = 1e-9;
+pub const WAIT_TOLERANCE_S: f64 = 1e-9;
 
 // ---- judging a rung
 // Whether a rung's value is greater than the choice's.
@@ -42,7 +42,7 @@ pub fn is_better(t: Table, p: Prices, s: State, r: Rung) -> bool
 }
 
 // Twice the wait, at most the longest: not computed where it could wrap.
-fn longer(w: u32) -> u32
+pub fn longer(w: u32) -> u32
     ensures { λ r. ⌜ r ≡ min 48 (2 * w) ⌝ }
 {
     if w < 24 { 2 * w } else { PROBE_WAIT_MAX }
@@ -158,7 +158,7 @@ pub fn end_try(t: Table, p: Prices, s: State, r: Rung, frames: u64) -> State
 }
 
 // Whether a try is over with this call: so many own frames with the call's, and so many calls before it.
-fn is_over(frames: u64, calls: u32) -> bool
+pub fn is_over(frames: u64, calls: u32) -> bool
     ensures { λ b. ⌜ b ≡ (leb 3 frames || leb 6 (suc calls)) ⌝ }
 {
     if frames >= 3 {
@@ -265,7 +265,7 @@ fn is_due(p: Prices, s: State, r: Rung, k: Known) -> bool
     time >= w as f64 * air - WAIT_TOLERANCE_S
 }
 
-fn is_on(m: Mark, r: Rung) -> bool
+pub fn is_on(m: Mark, r: Rung) -> bool
     ensures { λ b. ⌜ b ≡ isOn m (r .0) ⌝ }
 {
     match m {
@@ -274,7 +274,7 @@ fn is_on(m: Mark, r: Rung) -> bool
     }
 }
 
-fn same_family(t: Table, a: Rung, b: Rung) -> bool
+pub fn same_family(t: Table, a: Rung, b: Rung) -> bool
     ensures { λ x. ⌜ x ≡ Bool·beq (isFloor t (a .0)) (isFloor t (b .0)) ⌝ }
 {
     let x = a.0 < t.floors;

@@ -1,6 +1,7 @@
 //! Measures nanoseconds an event from a question file in memory to its sheet in memory: `bench [ROUNDS]`. The proved
 //! library, the Rust with the stand-ins and the Rust with the library's own `exp` and `powf` take turns in one process, and
-//! the least of ROUNDS (15) turns counts. The first two must print the same sheet.
+//! the least of ROUNDS (15) turns counts. The first two must print the same sheet. The proved library writes to memory that it
+//! is lent; the Rust's sheet is a string of its own.
 
 use judge::random::Random;
 use judge::{arguments, event, limits};
@@ -141,12 +142,14 @@ fn echo(random: &mut Random) -> Event {
 /// Prints a row: nanoseconds an event, the least of all rounds.
 fn measure(name: &str, file: &[u8], rounds: u64) {
     let wanted = judge::paper::sheet(file).expect("a sound paper");
-    assert_eq!(ours(file), wanted.as_bytes(), "{name}: the sheets differ");
+    let mut out = vec![0; judge::paper::BUFFER];
+    let len = ours(file, &mut out);
+    assert_eq!(&out[..len], wanted.as_bytes(), "{name}: the sheets differ");
     let events = wanted.lines().count();
     let mut least = [f64::INFINITY; 3];
     for _ in 0..rounds {
         let turns = [
-            turn(|| drop(black_box(ours(black_box(file))))),
+            turn(|| _ = black_box(ours(black_box(file), &mut out))),
             turn(|| drop(black_box(judge::paper::sheet(black_box(file))))),
             turn(|| drop(black_box(paper::sheet(black_box(file))))),
         ];
@@ -158,16 +161,15 @@ fn measure(name: &str, file: &[u8], rounds: u64) {
     println!("| {name} | {events} | {ours:.0} | {standin:.0} | {library:.0} |");
 }
 
-fn ours(file: &[u8]) -> Vec<u8> {
-    let mut out = vec![0; judge::paper::BUFFER];
+/// The length of a paper's sheet, which is at the start of the slice then.
+fn ours(file: &[u8], out: &mut [u8]) -> usize {
     // SAFETY: both slices are lent with their own lengths
     let len = unsafe { paper_sheet(file.as_ptr(), file.len(), out.as_mut_ptr(), out.len()) };
-    out.truncate(usize::try_from(len).expect("a sound paper"));
-    out
+    usize::try_from(len).expect("a sound paper")
 }
 
 /// Nanoseconds a call, over as many calls as a turn takes.
-fn turn(call: impl Fn()) -> f64 {
+fn turn(mut call: impl FnMut()) -> f64 {
     let start = Instant::now();
     let mut calls = 0_u32;
     while start.elapsed().as_nanos() < TURN {

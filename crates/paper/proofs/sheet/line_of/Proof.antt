@@ -7,21 +7,21 @@ use Rattle.paper.proofs.sheet.line_of.Tie as tie
 enum-told : tie.Need-enum-told
 enum-told c = search needs
 
-choice-requires : tie.Need-choice-requires
-choice-requires c κs = search needs
+rung-in-requires : tie.Need-rung-in-requires
+rung-in-requires c κs = search needs
 
-probing-requires : tie.Need-probing-requires
-probing-requires c κs = search needs
+tried-of-requires : tie.Need-tried-of-requires
+tried-of-requires c κs = search needs
 
-refuses-requires : tie.Need-refuses-requires
-refuses-requires c κs = search needs
+refuses-ofdm-requires : tie.Need-refuses-ofdm-requires
+refuses-ofdm-requires c κs = search needs
 
 enum-known-verdict : tie.Need-enum-known-verdict
 enum-known-verdict c = search needs
 
 returns : tie.Need-returns
 unfolding lineOf
-returns c = rw (c .before .before .before .before .before .enum-told .given .1, c .refuses .ensures, c .before .probing .ensures, c .before .before .choice .ensures)
+returns c = rw (c .before .before .before .before .before .enum-told .given .1, c .refuses-ofdm .ensures, c .before .tried-of .ensures, ← c .before .before .rung-in .ensures)
 
 returns-2 : tie.Need-returns-2
 unfolding lineOf
@@ -32,9 +32,9 @@ line-of-spec =
     tie.close
     (tie.spec
     enum-told
-    choice-requires
-    probing-requires
-    refuses-requires
+    rung-in-requires
+    tried-of-requires
+    refuses-ofdm-requires
     enum-known-verdict
     returns
     returns-2)

@@ -1,23 +1,19 @@
--- `start::fresh_for` meets its contract: the air's number decides. Assumes nothing.
-use borrow.Author.Tests.{eq-eqb, ne-eqb}
-use Rattle.paper.specs.Sheet.{freshFor}
+-- `start::fresh_for` meets its contract: by what the calls ensure. Assumes nothing.
+use mathlib.Core.Path.{_∙_, ap}
+use Rattle.rate.specs.Calls.{freshController}
+use Rattle.paper.proofs.Playing.{fresh-for}
 use borrow.Author.Needs.{needs}
 use Rattle.paper.proofs.start.fresh_for.Statement.{statement}
 use Rattle.paper.proofs.start.fresh_for.Tie as tie
 
-start-wide-requires : tie.Need-start-wide-requires
-start-wide-requires c κs = search needs
+table-of-requires : tie.Need-table-of-requires
+table-of-requires c κs = search needs
+
+fresh-requires : tie.Need-fresh-requires
+fresh-requires c κs = search needs
 
 returns : tie.Need-returns
-unfolding freshFor
-returns c = rw (eq-eqb (c .before .before .args .air) 1 (c .before .if1 .taken), c .start-wide .ensures)
-
-start-narrow-requires : tie.Need-start-narrow-requires
-start-narrow-requires c κs = search needs
-
-returns-2 : tie.Need-returns-2
-unfolding freshFor
-returns-2 c = rw (ne-eqb (c .before .before .args .air) 1 (c .before .if1 .left), c .start-narrow .ensures)
+returns c = c .fresh .ensures ∙ ap freshController (c .before .table-of .ensures) ∙ fresh-for (c .before .before .args .air)
 
 pub fresh-for-spec : {M : Type 1} → statement M
-fresh-for-spec = tie.close (tie.spec start-wide-requires returns start-narrow-requires returns-2)
+fresh-for-spec = tie.close (tie.spec table-of-requires fresh-requires returns)

@@ -1,20 +1,12 @@
 -- `steps::echo::is_all_out` meets its contract: each return is the definition where the tests are as the way there found them. Assumes nothing.
-use mathlib.Core.Path.{_≡_, refl}
-use mathlib.Core.Bool.{Bool, true, false, _&&_}
+use mathlib.Core.Path.{sym}
+use mathlib.Core.Bool.{and-true, and-false}
 use Rattle.ladder.specs.Lists.{someFrom}
 use Rattle.ladder.specs.Types.{placesOf}
 use Rattle.steps.specs.Echo.{ofdmAt, allOut}
 use borrow.Author.Needs.{needs}
 use Rattle.steps.proofs.echo.is_all_out.Statement.{statement}
 use Rattle.steps.proofs.echo.is_all_out.Tie as tie
-
-and-no : (b : Bool) → false ≡ (b && false)
-and-no true = refl
-and-no false = refl
-
-and-yes : (b : Bool) → b ≡ (b && true)
-and-yes true = refl
-and-yes false = refl
 
 has-ofdm-in-requires : tie.Need-has-ofdm-in-requires
 has-ofdm-in-requires c κs = search needs
@@ -24,11 +16,11 @@ has-ofdm-requires c κs = search needs
 
 returns : tie.Need-returns
 unfolding allOut
-returns c = rw (← c .before .has-ofdm-in .ensures, c .if1 .taken) (and-no (someFrom (placesOf (c .before .before .args .t)) 0 (ofdmAt (c .before .before .args .t))))
+returns c = rw (← c .before .has-ofdm-in .ensures, c .if1 .taken) (sym (and-false (someFrom (placesOf (c .before .before .args .t)) 0 (ofdmAt (c .before .before .args .t)))))
 
 returns-2 : tie.Need-returns-2
 unfolding allOut
-returns-2 c = rw (c .has-ofdm .ensures, ← c .before .before .has-ofdm-in .ensures, c .before .if1 .left) (and-yes (someFrom (placesOf (c .before .before .before .args .t)) 0 (ofdmAt (c .before .before .before .args .t))))
+returns-2 c = rw (c .has-ofdm .ensures, ← c .before .before .has-ofdm-in .ensures, c .before .if1 .left) (sym (and-true (someFrom (placesOf (c .before .before .before .args .t)) 0 (ofdmAt (c .before .before .before .args .t)))))
 
 pub is-all-out-spec : {M : Type 1} → statement M
 is-all-out-spec = tie.close (tie.spec has-ofdm-in-requires has-ofdm-requires returns returns-2)

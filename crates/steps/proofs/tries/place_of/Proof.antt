@@ -1,30 +1,13 @@
 -- `steps::tries::place_of` meets its contract: what is left of the walk gives what the whole walk gives. Assumes nothing.
 use mathlib.Core.Path.{_≡_, sym, ap, _∙_}
-use mathlib.Core.Bool.{Bool, cond}
-use Prim.Native.Nat.{ℕ, suc, _+_, _-_, _<_, _≤_}
+use Prim.Native.Nat.{ℕ, _-_, _≤_}
 use native.Mathlib.Omega.{arith}
-use native.Mathlib.Numerals.{add-one}
-use lib.Dec.{eqb}
-use borrow.Author.Tests.{eq-eqb, ne-eqb}
-use Rattle.ladder.specs.declared.types.Table.{Table}
-use Rattle.ladder.specs.Types.{rungAt, placesOf}
+use Rattle.ladder.specs.Types.{placesOf}
 use Rattle.steps.specs.Tries.{placeFrom}
+use Rattle.steps.proofs.Walks.{place-found, place-further}
 use borrow.Author.Needs.{needs}
 use Rattle.steps.proofs.tries.place_of.Statement.{statement}
 use Rattle.steps.proofs.tries.place_of.Tie as tie
-
-module _ (t : Table) (r d n i : ℕ) (h : i < n) where
-  step : placeFrom (n - i) i t r d ≡ cond (eqb (rungAt t i) r) i (placeFrom (n - (i + 1)) (i + 1) t r d)
-  step =
-      let m = n - (i + 1) in
-      let e : n - i ≡ suc m = omega arith in
-      ap (λ (k : ℕ). placeFrom k i t r d) e ∙ sym (ap (λ (k : ℕ). cond (eqb (rungAt t i) r) i (placeFrom m k t r d)) (add-one i))
-
-  found : rungAt t i ≡ r → i ≡ placeFrom (n - i) i t r d
-  found q = sym (step ∙ ap (λ (b : Bool). cond b i (placeFrom (n - (i + 1)) (i + 1) t r d)) (eq-eqb (rungAt t i) r q))
-
-  further : (rungAt t i ≡ r → ⊥) → placeFrom (n - (i + 1)) (i + 1) t r d ≡ placeFrom (n - i) i t r d
-  further q = sym (step ∙ ap (λ (b : Bool). cond b i (placeFrom (n - (i + 1)) (i + 1) t r d)) (ne-eqb (rungAt t i) r q))
 
 abbrev Inv-loop : tie.InvT-loop
 Inv-loop t r d places i₀ i = (i ≤ placesOf t) × (placeFrom (placesOf t - i) i t (r .0) d ≡ placeFrom (placesOf t) 0 t (r .0) d)
@@ -49,7 +32,7 @@ returns c =
     let b = c .before .before .before .before .before in
     let a = b .before .before .args in
     let l = b .loop in
-    found (a .t) (a .r .0) (a .d) (placesOf (a .t)) (l .i) (omega arith) (omega (arith, c .before .before .before .rung-at .ensures)) ∙ l .inv .1
+    place-found (a .t) (a .r .0) (a .d) (placesOf (a .t)) (l .i) (omega arith) (omega (arith, c .before .before .before .rung-at .ensures)) ∙ l .inv .1
 
 add-i : tie.Need-add-i Inv-loop μ-loop
 add-i c = search needs
@@ -62,7 +45,7 @@ loop-again c =
     let b = c .before .before .before .before .before in
     let a = b .before .before .args in
     let l = b .loop in
-    (omega arith, further (a .t) (a .r .0) (a .d) (placesOf (a .t)) (l .i) (omega arith) (λ e. c .if1 .left (c .before .before .before .rung-at .ensures ∙ e)) ∙ l .inv .1)
+    (omega arith, place-further (a .t) (a .r .0) (a .d) (placesOf (a .t)) (l .i) (omega arith) (λ e. c .if1 .left (c .before .before .before .rung-at .ensures ∙ e)) ∙ l .inv .1)
 
 returns-2 : tie.Need-returns-2 Inv-loop μ-loop
 returns-2 c =
