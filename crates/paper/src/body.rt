@@ -1,7 +1,6 @@
 // An event's body: whether it has its kind's form, and what it holds. Each function answers for every list of bytes.
 ghost use mathlib.Core.Path.{_≡_};
 ghost use Prim.Native.Nat.{min};
-ghost use lib.ListN.{length};
 ghost use Rattle.ladder.specs.Lists.{every};
 ghost use Rattle.limits.specs.Values.{okBurst};
 ghost use Rattle.paper.specs.Body.{allFrom, frameCount, okFlags, okFrames, frameOf, framesIn, noFrame, noFrames, okEcho, okSilence, okSnr, okFamilies, okPrices, burstCount, burstsIn, noBursts, okSeed, okBody, batchOf, burstsOf};

@@ -7,7 +7,7 @@ ghost use lib.ListN.{length, getD, set};
 ghost use Rattle.float.specs.Numbers.{ofNat, f0};
 ghost use Rattle.ladder.specs.Types.{row, rungAt};
 ghost use Rattle.account.specs.State.{noAccount};
-ghost use Rattle.account.specs.Price.{priorOf, estimateOf, estimateAt, burstOr, overheadOf, pricedOf, priced, value, losslessPrice, fullAir};
+ghost use Rattle.account.specs.Price.{priorOf, estimateOf, burstOr, overheadOf, pricedOf, value, losslessPrice, fullAir};
 ghost use Rattle.steps.specs.Echo.{over};
 ghost use Rattle.ladder.specs.declared.types.Table.{Table};
 ghost use Rattle.play.specs.Held.{ceiling, rowsOf, frontOf, accountsOf, rated};
