@@ -6,7 +6,7 @@ use std::{env, fs};
 
 /// Where the source is looked for, from this folder, when `RATE_SRC` is not set.
 const SOURCES: [&str; 2] = ["../../../shared/docs/src", "../../docs/src"];
-/// Where the proved code's static library is, from this folder, when `EXPORTS_DIR` is not set.
+/// Where the proved code's static libraries are, from this folder, when `EXPORTS_DIR` is not set.
 const EXPORTS: &str = "../../target/staticlib";
 /// The link layer's files within the source.
 const LINK: &str = "core/aether-link/src";
@@ -46,13 +46,12 @@ fn source(here: &Path) -> PathBuf {
         .unwrap_or_else(|| panic!("no Rust source in {SOURCES:?}; set RATE_SRC to its folder"))
 }
 
-/// Tells the linker where the library is; only the binaries that name it need it to be there.
+/// Tells the linker where the libraries are; only the binaries that name one need it to be there.
 fn exports(here: &Path) {
     let given = env::var_os("EXPORTS_DIR").unwrap_or_else(|| EXPORTS.into());
     let folder = here.join(given);
     println!("cargo:rustc-link-search=native={}", folder.display());
-    let library = folder.join("libexports.a");
-    println!("cargo:rerun-if-changed={}", library.display());
+    println!("cargo:rerun-if-changed={}", folder.display());
 }
 
 fn read(path: &Path) -> String {

@@ -6,26 +6,24 @@ use lib.ListN.{getD}
 use lib.Ieee.{Float}
 use Rattle.float.specs.Numbers.{_⊕_, _⊖_, _⊗_, _⊘_, ofNat, f0, f½, f2}
 use Rattle.half.specs.Logistic.{decodeProbability}
-use Rattle.ladder.specs.declared.types.Reading.{Reading}
-use Rattle.ladder.specs.declared.types.Reading.the-variants.{Missing, Value}
+use Rattle.limits.specs.declared.reading.Reading.{Reading}
+use Rattle.limits.specs.declared.reading.Reading.the-variants.{Missing, Value}
 use Rattle.ladder.specs.declared.types.Row.{Row}
 use Rattle.ladder.specs.declared.types.Table.{Table}
-use Rattle.ladder.specs.Types.{noRow, row, isFloor}
-use Rattle.account.specs.State.{Account, Families, Unset, Set, Tariff, Prices, State, noAccount, account, waitOf}
-pub use Rattle.account.specs.declared.types.Known.{Known}
-pub use Rattle.account.specs.declared.types.Terms.{Terms}
+use Rattle.ladder.specs.Types.{row, isFloor}
+use Rattle.account.specs.State.{Account, Families, Unset, Set, Tariff, Prices, State, account, waitOf}
 
 -- ---- prior and estimate
 -- the offset of the rung's family
 abbrev pub offset : Table → State → ℕ → Float
-offset t s r = cond (isFloor t r) (s .offsets .floor) (s .offsets .ofdm)
+offset t s r = cond (isFloor t r) (s .core .offsets .floor) (s .core .offsets .ofdm)
 
 -- "probability at SNR - family offset - margin"; "slope 0.5"
 abbrev pub chanceAt : Float → Float → Float → Float → Float
 chanceAt threshold margin off snr = decodeProbability (snr ⊖ off ⊖ margin) threshold f½
 
 unfoldable pub chance : Table → ℕ → Float → Float → Float
-chance t r off snr = chanceAt (row t r .threshold) (t .margin) off snr
+chance t r off snr = chanceAt (row t r .threshold) (t .air .margin) off snr
 
 -- "prior = capacity × probability .., or 0 without SNR"
 abbrev pub priorOf : Row → Float → Float → Reading → Float
@@ -33,7 +31,7 @@ priorOf a margin off Missing = f0
 priorOf a margin off (Value snr) = ofNat (a .capacity) ⊗ chanceAt (a .threshold) margin off snr
 
 abbrev pub prior : Table → ℕ → Float → Reading → Float
-prior t r off snr = priorOf (row t r) (t .margin) off snr
+prior t r off snr = priorOf (row t r) (t .air .margin) off snr
 
 -- "Estimate = (bytes + 2 × prior)/(air + 2 × frame time)"
 abbrev pub estimateOf : Account → Float → Float → Float
@@ -44,7 +42,7 @@ unfoldable pub estimateAt : Table → State → ℕ → Reading → Float
 estimateAt t s r snr = estimateOf (account s r) (prior t r (offset t s r) snr) (row t r .time)
 
 abbrev pub estimate : Table → State → ℕ → Float
-estimate t s r = estimateAt t s r (s .snr)
+estimate t s r = estimateAt t s r (s .core .snr)
 
 -- "`lossless` = capacity/frame time"
 unfoldable pub lossless : Table → ℕ → Float
@@ -97,20 +95,3 @@ fullAir t p r = ofNat (burstOr p r 1) ⊗ row t r .time
 -- "its wait in seconds is wait × that"
 unfoldable pub waitSeconds : Table → Tariff → State → ℕ → Float
 waitSeconds t p s r = ofNat (waitOf s r) ⊗ fullAir t p r
-
--- ---- the same of what was read: the value of a rung r is `rateOf (termsOf t p s (s .snr)) (knownOf t p s r)` (proofs/Rates.antt)
-abbrev pub termsOf : Table → Prices → State → Reading → Terms
-termsOf t p s snr = record { margin = t .margin; offsets = s .offsets; snr = snr; tariff = p .tariff; families = p .families }
-
-abbrev pub knownOf : Table → Prices → State → ℕ → Known
-knownOf t p s r = record { row = row t r; account = account s r; floor = isFloor t r; burst = burstOr (p .tariff) r 0 }
-
--- of the row and the account that the arrays have at r modulo 32
-abbrev pub knownBy : ℕ → Row → Account → ℕ → ℕ → Known
-knownBy r a b n floors = record { row = cond (ltb r 32) a noRow; account = cond (ltb r 32) b noAccount; floor = ltb r floors; burst = n }
-
-abbrev pub rateOf : Terms → Known → Float
-rateOf m k =
-    let off = cond (k .floor) (m .offsets .floor) (m .offsets .ofdm) in
-    let x = estimateOf (k .account) (priorOf (k .row) (m .margin) off (m .snr)) (k .row .time) in
-    pricedOf (m .tariff .given) (k .burst) (k .row .time) (overheadOf (m .tariff) (m .families) (k .floor)) x

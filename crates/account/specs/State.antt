@@ -6,8 +6,8 @@ use Prim.Native.Nat.{ℕ}
 use lib.ListN.{getD, set, replicate}
 use lib.Ieee.{Float}
 use Rattle.float.specs.Numbers.{f0}
-use Rattle.ladder.specs.declared.types.Reading.{Reading}
-use Rattle.ladder.specs.declared.types.Reading.the-variants.{Missing}
+use Rattle.limits.specs.declared.reading.Reading.{Reading}
+use Rattle.limits.specs.declared.reading.Reading.the-variants.{Missing}
 use Rattle.ladder.specs.declared.types.Table.{Table}
 use Rattle.ladder.specs.Types.{rungAt, place}
 pub use Rattle.account.specs.declared.types.Account.{Account}
@@ -20,6 +20,7 @@ pub use Rattle.account.specs.declared.types.Families.the-variants.{Unset
 pub use Rattle.account.specs.declared.types.Tariff.{Tariff}
 pub use Rattle.account.specs.declared.types.Prices.{Prices}
 pub use Rattle.account.specs.declared.types.Offsets.{Offsets}
+pub use Rattle.account.specs.declared.types.Core.{Core}
 pub use Rattle.account.specs.declared.types.State.{State}
 
 -- "An account holds decayed bytes, seconds of air and frames."
@@ -45,114 +46,84 @@ waitOf s r = getD (s .wait) r 6
 
 -- the chosen rung: "choice is held as a place, accounts go by rung"
 abbrev pub choice : Table → State → ℕ
-choice t s = rungAt t (s .place .0)
+choice t s = rungAt t (s .core .place .0)
+
+-- ---- changing one field, of what is no array
+abbrev pub coreWithTrying : Core → Trying → Core
+coreWithTrying c y = record {
+  trying = y;
+  snr = c .snr;
+  echo = c .echo;
+  place = c .place;
+  offsets = c .offsets;
+  failed = c .failed;
+  clean = c .clean;
+}
+
+abbrev pub coreWithSnr : Core → Reading → Core
+coreWithSnr c x = record {
+  trying = c .trying;
+  snr = x;
+  echo = c .echo;
+  place = c .place;
+  offsets = c .offsets;
+  failed = c .failed;
+  clean = c .clean;
+}
+
+abbrev pub coreWithEcho : Core → Reading → Core
+coreWithEcho c x = record {
+  trying = c .trying;
+  snr = c .snr;
+  echo = x;
+  place = c .place;
+  offsets = c .offsets;
+  failed = c .failed;
+  clean = c .clean;
+}
+
+abbrev pub coreWithPlace : Core → ℕ → Core
+coreWithPlace c i = record {
+  trying = c .trying;
+  snr = c .snr;
+  echo = c .echo;
+  place = place i;
+  offsets = c .offsets;
+  failed = c .failed;
+  clean = c .clean;
+}
 
 -- ---- changing one field
 abbrev pub withSince : State → List Float → State
-withSince s l = record {
-  accounts = s .accounts;
-  since = l;
-  wait = s .wait;
-  trying = s .trying;
-  snr = s .snr;
-  echo = s .echo;
-  place = s .place;
-  offsets = s .offsets;
-  failed = s .failed;
-  clean = s .clean;
-}
+withSince s l = record { accounts = s .accounts; since = l; wait = s .wait; core = s .core }
+
+abbrev pub withWaits : State → List ℕ → State
+withWaits s l = record { accounts = s .accounts; since = s .since; wait = l; core = s .core }
+
+abbrev pub withCore : State → Core → State
+withCore s c = record { accounts = s .accounts; since = s .since; wait = s .wait; core = c }
 
 abbrev pub withTime : State → ℕ → Float → State
-withTime s r x = record {
-  accounts = s .accounts;
-  since = set (s .since) r x;
-  wait = s .wait;
-  trying = s .trying;
-  snr = s .snr;
-  echo = s .echo;
-  place = s .place;
-  offsets = s .offsets;
-  failed = s .failed;
-  clean = s .clean;
-}
+withTime s r x = withSince s (set (s .since) r x)
 
 abbrev pub withWait : State → ℕ → ℕ → State
-withWait s r w = record {
-  accounts = s .accounts;
-  since = s .since;
-  wait = set (s .wait) r w;
-  trying = s .trying;
-  snr = s .snr;
-  echo = s .echo;
-  place = s .place;
-  offsets = s .offsets;
-  failed = s .failed;
-  clean = s .clean;
-}
+withWait s r w = withWaits s (set (s .wait) r w)
 
 abbrev pub withTrying : State → Trying → State
-withTrying s y = record {
-  accounts = s .accounts;
-  since = s .since;
-  wait = s .wait;
-  trying = y;
-  snr = s .snr;
-  echo = s .echo;
-  place = s .place;
-  offsets = s .offsets;
-  failed = s .failed;
-  clean = s .clean;
-}
+withTrying s y = withCore s (coreWithTrying (s .core) y)
 
 abbrev pub withSnr : State → Reading → State
-withSnr s x = record {
-  accounts = s .accounts;
-  since = s .since;
-  wait = s .wait;
-  trying = s .trying;
-  snr = x;
-  echo = s .echo;
-  place = s .place;
-  offsets = s .offsets;
-  failed = s .failed;
-  clean = s .clean;
-}
+withSnr s x = withCore s (coreWithSnr (s .core) x)
 
 abbrev pub withEcho : State → Reading → State
-withEcho s x = record {
-  accounts = s .accounts;
-  since = s .since;
-  wait = s .wait;
-  trying = s .trying;
-  snr = s .snr;
-  echo = x;
-  place = s .place;
-  offsets = s .offsets;
-  failed = s .failed;
-  clean = s .clean;
-}
+withEcho s x = withCore s (coreWithEcho (s .core) x)
 
 abbrev pub withPlace : State → ℕ → State
-withPlace s i = record {
-  accounts = s .accounts;
-  since = s .since;
-  wait = s .wait;
-  trying = s .trying;
-  snr = s .snr;
-  echo = s .echo;
-  place = place i;
-  offsets = s .offsets;
-  failed = s .failed;
-  clean = s .clean;
-}
+withPlace s i = withCore s (coreWithPlace (s .core) i)
 
 -- ---- fresh
--- "`None` accounts, times and waits: zero account, 0.0, 6."
-abbrev pub freshState : State
-freshState = record {
-  accounts = replicate 32 noAccount;
-  since = replicate 32 f0;
-  wait = replicate 32 6;
+abbrev pub freshCore : Core
+freshCore = record {
   trying = Nothing;
   snr = Missing;
   echo = Missing;
@@ -161,6 +132,10 @@ freshState = record {
   failed = false;
   clean = Nowhere;
 }
+
+-- "`None` accounts, times and waits: zero account, 0.0, 6."
+abbrev pub freshState : State
+freshState = record { accounts = replicate 32 noAccount; since = replicate 32 f0; wait = replicate 32 6; core = freshCore }
 
 abbrev pub unpriced : Prices
 unpriced = record { tariff = record { given = false; floor = f0; ordinary = f0; gap = f0; bursts = replicate 32 0; counted = 0 }; families = Unset }

@@ -1,21 +1,20 @@
-// What a rung is rated by. The formulas take plain values; the functions that take a table, prices or a state read those values from them.
+// What a rung is rated by. The formulas take small values: whoever holds a table and a state, by value or in slices, reads them there.
 ghost use mathlib.Core.Path.{_≡_};
 ghost use mathlib.Core.Bool.{cond};
 ghost use lib.ListN.{getD};
 ghost use Rattle.float.specs.Numbers.{_⊗_, _⊘_, ofNat};
-ghost use Rattle.account.specs.Price.{chanceAt, priorOf, estimateOf, estimateAt, lossless, control, burstOr, overheadOf, pricedOf, priced, value, fullAir, waitSeconds, termsOf, knownOf, knownBy, rateOf};
+ghost use Rattle.account.specs.Price.{chanceAt, priorOf, estimateOf, control, burstOr, overheadOf, pricedOf};
+ghost use Rattle.account.specs.bridges.Rated.{estimateBy, priceBy, valueBy, losslessBy};
 use crate::types::Account;
+use crate::types::Core;
 use crate::types::Families;
-use crate::types::Known;
 use crate::types::Offsets;
 use crate::types::Prices;
-use crate::types::State;
 use crate::types::Tariff;
-use crate::types::Terms;
-use ladder::types::Reading;
+use ladder::types::Air;
 use ladder::types::Row;
 use ladder::types::Rung;
-use ladder::types::Table;
+use limits::reading::Reading;
 
 // The prior's weight, in frames, and the logistic's slope, in dB.
 const PRIOR_FRAMES: f64 = 2.0;
@@ -54,23 +53,21 @@ pub fn estimate_of(a: Account, prior: f64, time: f64) -> f64
     (a.bytes + PRIOR_FRAMES * prior) / (a.air + PRIOR_FRAMES * time)
 }
 
-// The same of a rung, at an SNR.
-pub fn estimate_at(t: Table, s: State, r: Rung, snr: Reading) -> f64
-    ensures { λ x. ⌜ x ≡ estimateAt t s (r .0) snr ⌝ }
+// The same of a rung at the smoothed SNR, from its row and account.
+pub fn estimate_by(a: Air, c: Core, r: Rung, row: Row, b: Account) -> f64
+    ensures { λ x. ⌜ x ≡ estimateBy a c (r .0) row b ⌝ }
 {
-    let row = ladder::read::row_of(t, r);
-    let a = crate::state::account_of(s, r);
-    let offsets = s.offsets;
-    let off = family_offset(r.0 < t.floors, offsets);
-    let prior = prior_of(row, t.margin, off, snr);
-    estimate_of(a, prior, row.time)
+    let offsets = c.offsets;
+    let snr = c.snr;
+    let off = family_offset(r.0 < a.floors, offsets);
+    let prior = prior_of(row, a.margin, off, snr);
+    estimate_of(b, prior, row.time)
 }
 
 // Data bytes a second of a rung's frames carries, nothing lost.
-pub fn lossless_of(t: Table, r: Rung) -> f64
-    ensures { λ x. ⌜ x ≡ lossless t (r .0) ⌝ }
+pub fn lossless_of(row: Row) -> f64
+    ensures { λ x. ⌜ x ≡ ofNat (row .capacity) ⊘ row .time ⌝ }
 {
-    let row = ladder::read::row_of(t, r);
     row.capacity as f64 / row.time
 }
 
@@ -126,118 +123,41 @@ pub fn priced_of(given: bool, n: u32, time: f64, over: f64, x: f64) -> f64
     x
 }
 
-// ---- value: what is read is read once
-// What the values at an SNR are read by.
-pub fn terms_of(t: Table, p: Prices, s: State, snr: Reading) -> Terms
-    ensures { λ m. ⌜ m ≡ termsOf t p s snr ⌝ }
-{
-    let offsets = s.offsets;
-    let tariff = p.tariff;
-    let families = p.families;
-    Terms {
-        margin: t.margin,
-        offsets,
-        snr,
-        tariff,
-        families,
-    }
-}
-
-// What is known of a rung, from what the arrays have at its number modulo 32: a walk that reads them itself copies neither table nor state.
-pub fn known_by(r: Rung, row: Row, a: Account, n: u32, floors: u32) -> Known
-    ensures { λ k. ⌜ k ≡ knownBy (r .0) row a n floors ⌝ }
-{
-    let row = ladder::read::row_or(r, row);
-    let account = crate::state::account_or(r, a);
-    Known {
-        row,
-        account,
-        floor: r.0 < floors,
-        burst: n,
-    }
-}
-
-// What is known of a rung.
-pub fn known_of(t: Table, p: Prices, s: State, r: Rung) -> Known
-    ensures { λ k. ⌜ k ≡ knownOf t p s (r .0) ⌝ }
+// A rate of a rung, floor or not, priced.
+fn price_by(p: Prices, r: Rung, floor: bool, time: f64, x: f64) -> f64
+    ensures { λ y. ⌜ y ≡ priceBy p (r .0) floor time x ⌝ }
 {
     let tariff = p.tariff;
-    let n = burst_or(tariff, r, 0);
-    let i = (r.0 % 32) as usize;
-    let rows = t.rows;
-    let accounts = s.accounts;
-    known_by(r, rows[i], accounts[i], n, t.floors)
+    if tariff.given {
+        let families = p.families;
+        let n = burst_or(tariff, r, 0);
+        let over = overhead_of(tariff, families, floor);
+        return priced_of(true, n, time, over, x);
+    }
+    x
 }
 
-// A rate priced.
-pub fn priced_by(m: Terms, k: Known, x: f64) -> f64
-    ensures { λ y. ⌜ y ≡ pricedOf (m .tariff .given) (k .burst) (k .row .time) (overheadOf (m .tariff) (m .families) (k .floor)) x ⌝ }
+// ---- value
+// What the rungs are ranked by: the estimate at the smoothed SNR, priced.
+pub fn value_by(a: Air, p: Prices, c: Core, r: Rung, row: Row, b: Account) -> f64
+    ensures { λ x. ⌜ x ≡ valueBy a p c (r .0) row b ⌝ }
 {
-    let row = k.row;
-    let tariff = m.tariff;
-    let families = m.families;
-    let over = overhead_of(tariff, families, k.floor);
-    priced_of(tariff.given, k.burst, row.time, over, x)
-}
-
-// The estimate priced.
-pub fn rate(m: Terms, k: Known) -> f64
-    ensures { λ x. ⌜ x ≡ rateOf m k ⌝ }
-{
-    let row = k.row;
-    let a = k.account;
-    let offsets = m.offsets;
-    let snr = m.snr;
-    let off = family_offset(k.floor, offsets);
-    let prior = prior_of(row, m.margin, off, snr);
-    priced_by(m, k, estimate_of(a, prior, row.time))
+    let x = estimate_by(a, c, r, row, b);
+    price_by(p, r, r.0 < a.floors, row.time, x)
 }
 
 // The most that a rung could be worth: `lossless` priced.
-pub fn lossless_rate(m: Terms, k: Known) -> f64
-    ensures { λ x. ⌜ x ≡ pricedOf (m .tariff .given) (k .burst) (k .row .time) (overheadOf (m .tariff) (m .families) (k .floor)) (ofNat (k .row .capacity) ⊘ k .row .time) ⌝ }
+pub fn lossless_by(a: Air, p: Prices, r: Rung, row: Row) -> f64
+    ensures { λ x. ⌜ x ≡ losslessBy a p (r .0) row ⌝ }
 {
-    let row = k.row;
-    priced_by(m, k, row.capacity as f64 / row.time)
+    price_by(p, r, r.0 < a.floors, row.time, lossless_of(row))
 }
 
-// A rung's estimate at an SNR, priced.
-pub fn rate_at(t: Table, p: Prices, s: State, r: Rung, snr: Reading) -> f64
-    ensures { λ x. ⌜ x ≡ priced t p (r .0) (estimateAt t s (r .0) snr) ⌝ }
-{
-    rate(terms_of(t, p, s, snr), known_of(t, p, s, r))
-}
-
-// What the rungs are ranked by: the estimate priced.
-pub fn value_of(t: Table, p: Prices, s: State, r: Rung) -> f64
-    ensures { λ x. ⌜ x ≡ value t p s (r .0) ⌝ }
-{
-    let snr = s.snr;
-    rate_at(t, p, s, r, snr)
-}
-
-// ---- air and wait
+// ---- air
 // The air of a full transmission at a rung, of its frame time: one frame where its burst count is absent.
-pub fn burst_air(p: Tariff, r: Rung, time: f64) -> f64
+pub fn full_air(p: Tariff, r: Rung, time: f64) -> f64
     ensures { λ x. ⌜ x ≡ ofNat (burstOr p (r .0) 1) ⊗ time ⌝ }
 {
     let n = burst_or(p, r, 1);
     n as f64 * time
-}
-
-// The same, its frame time read.
-pub fn full_air(t: Table, p: Tariff, r: Rung) -> f64
-    ensures { λ x. ⌜ x ≡ fullAir t p (r .0) ⌝ }
-{
-    let row = ladder::read::row_of(t, r);
-    burst_air(p, r, row.time)
-}
-
-// A rung's wait in seconds of air.
-pub fn wait_seconds(t: Table, p: Tariff, s: State, r: Rung) -> f64
-    ensures { λ x. ⌜ x ≡ waitSeconds t p s (r .0) ⌝ }
-{
-    let w = crate::state::wait_of(s, r);
-    let a = full_air(t, p, r);
-    w as f64 * a
 }

@@ -1,8 +1,7 @@
 // The moving parts of a controller, and the prices that are set.
 use ladder::types::Place;
-use ladder::types::Reading;
-use ladder::types::Row;
 use ladder::types::Rung;
+use limits::reading::Reading;
 
 // A rung's measured delivery, decayed: data bytes delivered, seconds of air spent, frames sent.
 pub struct Account {
@@ -50,11 +49,9 @@ pub struct Offsets {
     pub ofdm: f64,
 }
 
-// What the calls move. By rung: accounts, seconds of air since its last try, and its wait in full transmissions.
-pub struct State {
-    pub accounts: [Account; 32],
-    pub since: [f64; 32],
-    pub wait: [u32; 32],
+// What the calls move outside the arrays: the running try, the smoothed SNR and echo, the choice as a place on the front, the offsets, whether the last OFDM
+// frames all failed, and the clean mark.
+pub struct Core {
     pub trying: Trying,
     pub snr: Reading,
     pub echo: Reading,
@@ -64,19 +61,10 @@ pub struct State {
     pub clean: Mark,
 }
 
-// What one rung's value is read from: its row and account, whether it is floor, and its burst count, 0 where absent.
-pub struct Known {
-    pub row: Row,
-    pub account: Account,
-    pub floor: bool,
-    pub burst: u32,
-}
-
-// What all values are read by.
-pub struct Terms {
-    pub margin: f64,
-    pub offsets: Offsets,
-    pub snr: Reading,
-    pub tariff: Tariff,
-    pub families: Families,
+// What the calls move. By rung: accounts, seconds of air since its last try, and its wait in full transmissions; and all that is no array.
+pub struct State {
+    pub accounts: [Account; 32],
+    pub since: [f64; 32],
+    pub wait: [u32; 32],
+    pub core: Core,
 }

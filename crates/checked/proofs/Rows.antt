@@ -6,7 +6,7 @@ use Rattle.half.specs.Power.{descent, series, half}
 use Rattle.half.specs.Logistic.{exp, decodeProbability}
 use Rattle.ladder.specs.Front.{beaten, frontOf}
 use Rattle.ladder.specs.Tables.{tableVerdict, tableOf, rowsOf}
-use Rattle.steps.specs.Echo.{silent}
+use Rattle.rules.specs.Echo.{silent}
 use Rattle.rate.specs.Calls.{after, step, verdict, accepted}
 use Rattle.checked.specs.Rows.{Each, rows}
 

@@ -55,7 +55,7 @@ Says (half-is t r) = half t ≡ r
 Says (probability-is snr threshold slope p) = decodeProbability snr threshold slope ≡ p
 Says (probability-over snr threshold slope p) = lt p (decodeProbability snr threshold slope) ≡ true
 Says (refused-with c why n) = (tableVerdict c ≡ Refused why) × (refusalNumber why ≡ n)
-Says (place-is k calls n) = after k calls .state .place .0 ≡ n
+Says (place-is k calls n) = after k calls .state .core .place .0 ≡ n
 Says (front-lacks c gone) = frontOfColumns c ≡ select (length (c .thresholds)) 0 (λ r. not (has gone r))
 
 abbrev pub Each : List Row → Type 0

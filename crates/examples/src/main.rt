@@ -8,12 +8,12 @@ ghost use lib.ListN.{length};
 use libc::STDIN_FILENO;
 use libc::STDOUT_FILENO;
 use limits::refusal::Refusal;
-use paper::bytes::part;
-use paper::bytes::past;
-use paper::bytes::u32_of;
 use paper::types::Marked;
 use paper::types::Score;
 use paper::types::Sheet;
+use question::bytes::part;
+use question::bytes::past;
+use question::bytes::u32_of;
 
 // The bytes before a paper's name.
 const HEAD: usize = 16;

@@ -10,8 +10,8 @@ use Rattle.limits.specs.declared.refusal.Verdict.{Verdict}
 use Rattle.limits.specs.declared.refusal.Verdict.the-variants.{Accepted, Refused}
 use Rattle.ladder.specs.declared.types.Rung.{Rung}
 use Rattle.ladder.specs.declared.types.Front.{Front}
-use Rattle.ladder.specs.declared.types.Reading.{Reading}
-use Rattle.ladder.specs.declared.types.Reading.the-variants.{Missing, Value}
+use Rattle.limits.specs.declared.reading.Reading.{Reading}
+use Rattle.limits.specs.declared.reading.Reading.the-variants.{Missing, Value}
 use Rattle.ladder.specs.declared.front.Usable.{Usable}
 use Rattle.ladder.specs.Lists.{tabulate}
 use Rattle.ladder.specs.Types.{rung}

@@ -4,8 +4,8 @@ ghost use Prim.Native.Nat.{min};
 ghost use Rattle.ladder.specs.Front.{usableOf};
 ghost use Rattle.ladder.specs.Tables.{columns, tableVerdict};
 ghost use Rattle.exports.specs.Tables.{numbersOf, readingAt, readingsOf, verdictStatus, usableStatus, usableWritten, limitedOf};
-use ladder::types::Reading;
 use ladder::types::Rung;
+use limits::reading::Reading;
 use limits::refusal::Verdict;
 
 // The rungs of a front by their numbers.

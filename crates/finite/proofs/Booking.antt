@@ -20,10 +20,11 @@ use Rattle.limits.specs.Refusals.{unless}
 use Rattle.limits.specs.declared.refusal.Refusal.the-variants.{UnknownRung, OutsideLimits}
 use Rattle.limits.specs.declared.refusal.Verdict.the-variants.{Accepted}
 use Rattle.limits.proofs.Verdicts.{or-else, unless-not}
-use Rattle.ladder.specs.declared.types.Reading.{Reading}
-use Rattle.ladder.specs.declared.types.Reading.the-variants.{Missing, Value}
+use Rattle.limits.specs.declared.reading.Reading.{Reading}
+use Rattle.limits.specs.declared.reading.Reading.the-variants.{Missing, Value}
 use Rattle.ladder.specs.declared.types.Table.{Table}
-use Rattle.ladder.specs.Types.{row, rungAt, rungsOf, placesOf, isFloor, inTable, okSnr}
+use Rattle.ladder.specs.Types.{row, rungAt, rungsOf, placesOf, isFloor, inTable}
+use Rattle.limits.specs.Readings.{okSnr}
 use Rattle.ladder.proofs.Cases.{pick, pick-by, no-of}
 use Rattle.ladder.proofs.Entries.{All, all-set}
 use Rattle.account.specs.declared.types.Account.{Account}
@@ -31,10 +32,10 @@ use Rattle.account.specs.declared.types.Offsets.{Offsets}
 use Rattle.account.specs.declared.types.State.{State}
 use Rattle.account.specs.State.{noAccount}
 use Rattle.account.specs.Price.{chance}
-use Rattle.steps.specs.declared.types.Frame.{Frame}
-use Rattle.steps.specs.Booking.{at, clamp, moved, offsetStep, offsetsFrom, offsetsAt, offsetsAfter, f12, aged, gained, bookOne, bookFrame, book, airs, callAir, passed, booked}
-use Rattle.steps.specs.Check.{frameVerdict, firstBad}
-use Rattle.steps.proofs.Fade.{own-fade}
+use Rattle.rules.specs.declared.types.Frame.{Frame}
+use Rattle.rules.specs.Booking.{at, clamp, moved, offsetStep, offsetsFrom, offsetsAt, offsetsAfter, f12, aged, gained, bookOne, bookFrame, book, airs, callAir, passed, booked}
+use Rattle.rules.specs.Check.{frameVerdict, firstBad}
+use Rattle.rules.proofs.Fade.{own-fade}
 use Rattle.finite.proofs.Ranges.{Range, _to_, In, bounded, first, second, third, in-by, in-number, in-natural, widen, holds, _⊞_, _⊠_, _÷_, scaled, sums, differences, products, quotients, scales, sum-in, difference-in, product-in, quotient-in, scaled-in, counts}
 use Rattle.finite.proofs.Bounds.{decibels, airTimes, accountBytes, accountAir, accountFrames, capacities, shares, offsets, surprises, times, TableIn, AccountIn, OffsetsIn, Held, all-any}
 use Rattle.finite.proofs.Values.{share-in, chance-in, no-account-in}
@@ -152,11 +153,11 @@ module _ (t : Table) (ts : TableIn t) (snr : Float) (hs : In decibels snr) where
       let r = f .rung .0 in
       let p = chance t r off snr in
       let y = p ⊖ cond (f .decoded) f1 f0 in
-      let g = scaled-in (t .gain) surprises surprises y
-      (difference-in shares shares surprises p (cond (f .decoded) f1 f0) (chance-in (row t r .threshold) (t .margin) off snr (ts .rows r .threshold) (ts .margin) h hs)
+      let g = scaled-in (t .air .gain) surprises surprises y
+      (difference-in shares shares surprises p (cond (f .decoded) f1 f0) (chance-in (row t r .threshold) (t .air .margin) off snr (ts .rows r .threshold) (ts .margin) h hs)
       (pick (In shares) (f .decoded) (move-ends .4) (move-ends .3)) (move-ends .0))
       (ts .moves) in
-      clamp-in (off ⊕ t .gain ⊗ y) (in-number (offsets ⊞ surprises) (off ⊕ t .gain ⊗ y) (move-ends .2) (sum-in offsets surprises (offsets ⊞ surprises) off (t .gain ⊗ y) h g (move-ends .1)))
+      clamp-in (off ⊕ t .air .gain ⊗ y) (in-number (offsets ⊞ surprises) (off ⊕ t .air .gain ⊗ y) (move-ends .2) (sum-in offsets surprises (offsets ⊞ surprises) off (t .air .gain ⊗ y) h g (move-ends .1)))
 
   step-in : (f : Frame) (o : Offsets) → OffsetsIn o → OffsetsIn (offsetStep t snr f o)
   step-in f o h =
@@ -204,5 +205,5 @@ booked-in t ts s fs k h = record {
   wait = h .wait;
   snr = h .snr;
   echo = h .echo;
-  offsets = offsets-in t ts fs (s .offsets) (s .snr) (h .snr) (h .offsets);
+  offsets = offsets-in t ts fs (s .core .offsets) (s .core .snr) (h .snr) (h .offsets);
 }

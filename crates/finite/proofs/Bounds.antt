@@ -11,12 +11,13 @@ use lib.Ieee.Fits.{and-l, and-r}
 use Rattle.float.specs.Numbers.{ofNat, f0, f1, f5, f20}
 use Rattle.limits.specs.Values.{f200, f60, milli, okDb, okAir, okBytes}
 use Rattle.limits.specs.declared.refusal.Verdict.the-variants.{Accepted}
-use Rattle.ladder.specs.declared.types.Reading.{Reading}
-use Rattle.ladder.specs.declared.types.Reading.the-variants.{Missing}
+use Rattle.limits.specs.declared.reading.Reading.{Reading}
+use Rattle.limits.specs.declared.reading.Reading.the-variants.{Missing}
 use Rattle.ladder.specs.declared.types.Row.{Row}
 use Rattle.ladder.specs.declared.types.Table.{Table}
 use Rattle.ladder.specs.Lists.{every, tabulate}
-use Rattle.ladder.specs.Types.{noRow, row, okLimit, okSnr}
+use Rattle.ladder.specs.Types.{noRow, row}
+use Rattle.limits.specs.Readings.{okLimit, okSnr}
 use Rattle.ladder.specs.Tables.{Columns, tableVerdict, rowOf, rowsOf, priorMargin, familyGain, tableOf, forAir}
 use Rattle.ladder.proofs.Cases.{pick, pick-by, yes-of}
 use Rattle.ladder.proofs.Entries.{All}
@@ -76,9 +77,9 @@ pub record RowIn (a : Row) : Type 0 where
 
 pub record TableIn (t : Table) : Type 0 where
   pub rows : (r : ℕ) → RowIn (row t r)
-  pub margin : In margins (t .margin)
-  pub gain : In shares (t .gain)
-  pub moves : T (scales (t .gain) surprises surprises)
+  pub margin : In margins (t .air .margin)
+  pub gain : In shares (t .air .gain)
+  pub moves : T (scales (t .air .gain) surprises surprises)
 
 pub record TariffIn (p : Tariff) : Type 0 where
   pub floor : In lengths (p .floor)
@@ -105,7 +106,7 @@ pub record Fields (accs : List Account) (ts : List Float) (ws : List ℕ) (x e :
   pub offsets : OffsetsIn o
 
 abbrev pub Held : State → Type 0
-Held s = Fields (s .accounts) (s .since) (s .wait) (s .snr) (s .echo) (s .offsets)
+Held s = Fields (s .accounts) (s .since) (s .wait) (s .core .snr) (s .core .echo) (s .core .offsets)
 
 -- ---- an entry of a list, whatever its place: past the end it is the default
 pub all-any : {A : Type 0} (P : A → Type 0) (l : List A) (i : ℕ) (d : A) → All P l → P d → P (getD l i d)

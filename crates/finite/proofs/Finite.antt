@@ -14,11 +14,12 @@ use Rattle.limits.specs.Refusals.{unless, orElse}
 use Rattle.limits.specs.declared.refusal.Refusal.the-variants.{TooManyFrames, OutsideLimits, TooManyBursts}
 use Rattle.limits.specs.declared.refusal.Verdict.the-variants.{Accepted}
 use Rattle.limits.proofs.Verdicts.{or-else, unless-not}
-use Rattle.ladder.specs.declared.types.Reading.{Reading}
-use Rattle.ladder.specs.declared.types.Reading.the-variants.{Missing, Value}
+use Rattle.limits.specs.declared.reading.Reading.{Reading}
+use Rattle.limits.specs.declared.reading.Reading.the-variants.{Missing, Value}
 use Rattle.ladder.specs.declared.types.Table.{Table}
 use Rattle.ladder.specs.Lists.{every}
-use Rattle.ladder.specs.Types.{row, okSnr, okLimit}
+use Rattle.ladder.specs.Types.{row}
+use Rattle.limits.specs.Readings.{okSnr, okLimit}
 use Rattle.ladder.proofs.Entries.{All, all-replicate}
 use Rattle.account.specs.declared.types.Account.{Account}
 use Rattle.account.specs.declared.types.Tariff.{Tariff}
@@ -26,9 +27,9 @@ use Rattle.account.specs.declared.types.State.{State}
 use Rattle.account.specs.State.{noAccount, account, timeOf}
 use Rattle.account.specs.Price.{waitSeconds}
 use Rattle.account.proofs.FullAir.{TariffSound, IsWait}
-use Rattle.steps.specs.declared.types.Frame.{Frame}
-use Rattle.steps.specs.Echo.{silent, observeEcho}
-use Rattle.steps.specs.Check.{firstBad}
+use Rattle.rules.specs.declared.types.Frame.{Frame}
+use Rattle.rules.specs.Echo.{silent, observeEcho}
+use Rattle.rules.specs.Check.{firstBad}
 use Rattle.rate.specs.declared.types.RateController.{RateController}
 use Rattle.rate.specs.declared.types.Answer.{Answer}
 use Rattle.rate.specs.Calls.{Call, Frames, Echo, Silence, Snr, Seed, Price, Family, verdict, accepted, step, after}
@@ -136,8 +137,8 @@ table-lies t h = record {
   times = λ r. lies airTimes (row t r .time) (ends .1) (h .rows r .time);
   limits = λ r. limit-lies (row t r .limit) (h .rows r .limit);
   capacities = λ r. h .rows r .capacity;
-  margin = lies margins (t .margin) (ends .4) (h .margin);
-  gain = lies shares (t .gain) (ends .3) (h .gain);
+  margin = lies margins (t .air .margin) (ends .4) (h .margin);
+  gain = lies shares (t .air .gain) (ends .3) (h .gain);
 }
 
 tariff-lies : (p : Tariff) → TariffIn p → TariffLies p
@@ -160,10 +161,10 @@ state-lies s h = record {
   accounts = λ r. account-lies (account s r) (all-any AccountIn (s .accounts) r noAccount (h .accounts) no-account-in);
   times = λ r. lies times (timeOf s r) (ends .6) (all-any (In times) (s .since) r f0 (h .since) zero-time);
   waits = λ r. all-any IsWait (s .wait) r 6 (h .wait) (omega arith);
-  snr = snr-lies (s .snr) (h .snr);
-  echo = limit-lies (s .echo) (h .echo);
-  floor-offset = lies offsets (s .offsets .floor) (ends .5) (h .offsets .floor);
-  ofdm-offset = lies offsets (s .offsets .ofdm) (ends .5) (h .offsets .ofdm);
+  snr = snr-lies (s .core .snr) (h .snr);
+  echo = limit-lies (s .core .echo) (h .echo);
+  floor-offset = lies offsets (s .core .offsets .floor) (ends .5) (h .offsets .floor);
+  ofdm-offset = lies offsets (s .core .offsets .ofdm) (ends .5) (h .offsets .ofdm);
 }
 
 -- ---- the claim

@@ -4,13 +4,14 @@ use mathlib.Core.Path.{_≡_, refl}
 use mathlib.Core.List.{List}
 use Rattle.float.proofs.Monotone.{finite-number}
 use Rattle.limits.specs.declared.refusal.Verdict.the-variants.{Accepted}
-use Rattle.ladder.specs.declared.types.Reading.{Reading}
+use Rattle.limits.specs.declared.reading.Reading.{Reading}
 use Rattle.ladder.specs.Types.{placesOf, rungAt}
 use Rattle.account.specs.Price.{value}
-use Rattle.steps.specs.declared.types.Frame.{Frame}
-use Rattle.steps.specs.Tries.{candidate, choose}
-use Rattle.steps.specs.Transmission.{inside}
-use Rattle.steps.proofs.Lowest.{BestOf, lowest-of-greatest}
+use Rattle.rules.specs.declared.types.Frame.{Frame}
+use Rattle.rules.specs.Tries.{candidate, choose}
+use Rattle.rules.specs.Transmission.{inside}
+use Rattle.rules.specs.Lowest.{BestOf}
+use Rattle.rules.proofs.LowestFound.{lowest-of-greatest}
 use Rattle.rate.specs.declared.types.RateController.{RateController}
 use Rattle.rate.specs.Calls.{Call, Frames, verdict, after}
 use Rattle.waiting.specs.Waiting.{Fresh}

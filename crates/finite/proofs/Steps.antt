@@ -7,10 +7,11 @@ use lib.Dec.{T, leb, eqb}
 use lib.Ieee.{Float, ofBits, ofInt, round, neg, add, mul, le, lt}
 use Rattle.float.specs.Numbers.{f64, _⊕_, _⊗_, ofNat, f0}
 use Rattle.limits.specs.Values.{okDb, okShare}
-use Rattle.ladder.specs.declared.types.Reading.{Reading}
-use Rattle.ladder.specs.declared.types.Reading.the-variants.{Missing, Value}
+use Rattle.limits.specs.declared.reading.Reading.{Reading}
+use Rattle.limits.specs.declared.reading.Reading.the-variants.{Missing, Value}
 use Rattle.ladder.specs.declared.types.Table.{Table}
-use Rattle.ladder.specs.Types.{row, rungAt, placesOf, okSnr, okLimit}
+use Rattle.ladder.specs.Types.{row, rungAt, placesOf}
+use Rattle.limits.specs.Readings.{okSnr, okLimit}
 use Rattle.ladder.proofs.Cases.{pick}
 use Rattle.ladder.proofs.Entries.{All, all-set}
 use Rattle.account.specs.declared.types.Trying.{Trying}
@@ -20,14 +21,14 @@ use Rattle.account.specs.declared.types.State.{State}
 use Rattle.account.specs.State.{waitOf, choice, withTime, withWait, withTrying, withPlace, withSnr, withEcho}
 use Rattle.account.specs.Price.{burstOr, fullAir, waitSeconds}
 use Rattle.account.proofs.FullAir.{IsWait}
-use Rattle.steps.specs.declared.types.Frame.{Frame}
-use Rattle.steps.specs.declared.types.Best.{Best}
-use Rattle.steps.specs.declared.types.Best.the-variants.{NoneYet, Found}
-use Rattle.steps.specs.declared.types.Decided.{Decided}
-use Rattle.steps.specs.Echo.{out, usable, smoothSnr, smoothEcho, endIfOut, echoed, observeEcho, seed, seedAt, observeSnr}
-use Rattle.steps.specs.Booking.{booked}
-use Rattle.steps.specs.Tries.{better, judgeTry, toJudge, judgeSent, judgeAbove, placeFrom, fullWait, won, endTry, ownFrames, counted, begins, above, decideTry, decideAt, decide, choose}
-use Rattle.steps.specs.Transmission.{judged, inside, observeFrames}
+use Rattle.rules.specs.declared.types.Frame.{Frame}
+use Rattle.rules.specs.declared.lowest.Best.{Best}
+use Rattle.rules.specs.declared.lowest.Best.the-variants.{NoneYet, Found}
+use Rattle.rules.specs.Tries.{Decided}
+use Rattle.rules.specs.Echo.{out, usable, smoothSnr, smoothEcho, endIfOut, echoed, observeEcho, seed, seedAt, observeSnr}
+use Rattle.rules.specs.Booking.{booked}
+use Rattle.rules.specs.Tries.{better, judgeTry, toJudge, judgeSent, judgeAbove, placeFrom, fullWait, won, endTry, ownFrames, counted, begins, above, decideTry, decideAt, decide, choose}
+use Rattle.rules.specs.Transmission.{judged, inside, observeFrames}
 use Rattle.finite.proofs.Ranges.{Range, _to_, In, _⊠_, scaled, sums, products, scales, sum-in, product-in, scaled-in, counts}
 use Rattle.finite.proofs.Bounds.{decibels, airTimes, shares, times, TableIn, TariffIn, Held, all-any}
 use Rattle.finite.proofs.Values.{burst-small}
@@ -82,22 +83,22 @@ set-wait s r w h k = record { accounts = h .accounts; since = h .since; wait = a
 
 -- ---- readings
 pub snr-held : (s : State) (x : Reading) → T (okSnr x) → Held s → Held (observeSnr s x)
-snr-held s x k h = set-snr s (smoothSnr (s .snr) x) h (snr-in (s .snr) x (h .snr) k)
+snr-held s x k h = set-snr s (smoothSnr (s .core .snr) x) h (snr-in (s .core .snr) x (h .snr) k)
 
 pub echo-held : (t : Table) (p : Prices) (s : State) (x snr : Float) → T (okShare x) → Held s → Held (observeEcho t p s (Value x) snr)
 unfolding observeEcho
-echo-held t p s x snr k h = pick Held (lt snr (neg (f64 0x4018_0000_0000_0000))) h (heard (withEcho s (smoothEcho (s .echo) x)) (set-echo s (smoothEcho (s .echo) x) h (echo-in (s .echo) x (h .echo) k)))
+echo-held t p s x snr k h = pick Held (lt snr (neg (f64 0x4018_0000_0000_0000))) h (heard (withEcho s (smoothEcho (s .core .echo) x)) (set-echo s (smoothEcho (s .core .echo) x) h (echo-in (s .core .echo) x (h .echo) k)))
   where
     off : (m : State) (y : Trying) → Held m → Held (endIfOut t m y)
     off m Nothing g = g
     off m (Running r calls frames) g = pick Held (out t m (r .0)) g g
 
     heard : (m : State) → Held m → Held (echoed t p m)
-    heard m g = let z = endIfOut t m (m .trying) in let l = off m (m .trying) g in pick Held (out t z (choice t z)) l l
+    heard m g = let z = endIfOut t m (m .core .trying) in let l = off m (m .core .trying) g in pick Held (out t z (choice t z)) l l
 
 pub seed-held : (t : Table) (p : Prices) (s : State) (snr : Float) → T (okDb snr) → Held s → Held (seed t p s snr)
 unfolding seed
-seed-held t p s snr k h = go (s .snr)
+seed-held t p s snr k h = go (s .core .snr)
   where
     go : (x : Reading) → Held (seedAt t p s snr x)
     go Missing = set-snr s (Value snr) h k
@@ -141,13 +142,13 @@ module _ (t : Table) (p : Prices) (ts : TableIn t) (ps : TariffIn (p .tariff)) w
   full-held : (s : State) → Held s → Held (fullWait t p s)
   unfolding fullWait
   full-held s h =
-      let up = suc (s .place .0) in
+      let up = suc (s .core .place .0) in
       let r = rungAt t up in
       pick Held (usable t s up) (set-time s r (waitSeconds t (p .tariff) s r) h (wait-in s r h)) h
 
   won-held : (s : State) (r : ℕ) → Held s → Held (won t p s r)
   unfolding won
-  won-held s r h = full-held (withPlace s (placeFrom (placesOf t) 0 t r (s .place .0))) h
+  won-held s r h = full-held (withPlace s (placeFrom (placesOf t) 0 t r (s .core .place .0))) h
 
   end-held : (s : State) (r frames : ℕ) → Held s → Held (endTry t p s r frames)
   unfolding endTry
@@ -167,7 +168,7 @@ module _ (t : Table) (p : Prices) (ts : TableIn t) (ps : TariffIn (p .tariff)) w
 
     pub inside-held : Held (inside t p s fs snr)
     unfolding inside
-    inside-held = let b = judged t p (observeSnr s snr) fs in counted-held (ownFrames fs (b .trying)) b (b .trying) (judging-held 32)
+    inside-held = let b = judged t p (observeSnr s snr) fs in counted-held (ownFrames fs (b .core .trying)) b (b .core .trying) (judging-held 32)
 
   decide-held : (s : State) → Held s → Held (decide t p s .state)
   unfolding decide
@@ -175,11 +176,11 @@ module _ (t : Table) (p : Prices) (ts : TableIn t) (ps : TariffIn (p .tariff)) w
     where
       decided : (m : State) (y : Trying) → Held m → Held (decideTry t p m y .state)
       decided m Nothing k = pick (λ (d : Decided). Held (d .state)) (begins t p m) (set-time m (above t m) f0 k zero-time) k
-      decided m (Running r calls frames) k = pick Held (usable t m (suc (m .place .0)) && eqb (above t m) (r .0)) k k
+      decided m (Running r calls frames) k = pick Held (usable t m (suc (m .core .place .0)) && eqb (above t m) (r .0)) k k
 
       go : (b : Best) → Held (decideAt t p s b .state)
       go NoneYet = h
-      go (Found i x) = decided (withPlace s (i .0)) (s .trying) h
+      go (Found i x) = decided (withPlace s (i .0)) (s .core .trying) h
 
   pub frames-held : (s : State) (fs : List Frame) (snr : Reading) → All FrameIn fs → T (okSnr snr) → Held s → Held (observeFrames t p s fs snr .state)
   unfolding observeFrames

@@ -11,11 +11,12 @@ use Rattle.float.specs.Numbers.{_⊕_, _⊖_, _⊗_, ofNat, f0, f½, f2}
 use Rattle.float.proofs.Order.{number}
 use Rattle.float.proofs.Share.{Share}
 use Rattle.half.proofs.Range.{probability-share, from-share}
-use Rattle.ladder.specs.declared.types.Reading.{Reading}
-use Rattle.ladder.specs.declared.types.Reading.the-variants.{Missing, Value}
+use Rattle.limits.specs.declared.reading.Reading.{Reading}
+use Rattle.limits.specs.declared.reading.Reading.the-variants.{Missing, Value}
 use Rattle.ladder.specs.declared.types.Row.{Row}
 use Rattle.ladder.specs.declared.types.Table.{Table}
-use Rattle.ladder.specs.Types.{row, rungAt, isFloor, okSnr}
+use Rattle.ladder.specs.Types.{row, rungAt, isFloor}
+use Rattle.limits.specs.Readings.{okSnr}
 use Rattle.ladder.proofs.Cases.{pick, pick-by, yes-of}
 use Rattle.ladder.proofs.Entries.{All}
 use Rattle.account.specs.declared.types.Account.{Account}
@@ -26,8 +27,8 @@ use Rattle.account.specs.declared.types.State.{State}
 use Rattle.account.specs.State.{noAccount, account, choice}
 use Rattle.account.specs.Price.{offset, chanceAt, priorOf, estimateOf, estimateAt, lossless, ownFloor, otherFloor, control, burstOr, overheadOf, overhead, pricedOf, priced, value, losslessPrice}
 use Rattle.account.proofs.FullAir.{TariffSound}
-use Rattle.steps.specs.Echo.{usable}
-use Rattle.steps.specs.Tries.{due, cleanClimb, above}
+use Rattle.rules.specs.Echo.{usable}
+use Rattle.rules.specs.Tries.{due, cleanClimb, above}
 use Rattle.finite.specs.Finite.{OneTest, mostRate, mostValue, Lies, Compared, Alike}
 use Rattle.finite.proofs.Ranges.{Range, _to_, In, bounded, in-by, in-finite, in-number, widen, _⊞_, _⊟_, _⊠_, scaled, holds, sums, differences, products, quotients, scales, sum-in, difference-in, product-in, quotient-in, scaled-in, counts, opposite, one-test}
 use Rattle.finite.proofs.Bounds.{decibels, airTimes, accountBytes, accountAir, accountFrames, capacities, lengths, shares, margins, offsets, RowIn, TableIn, TariffIn, AccountIn, OffsetsIn, Held, all-any}
@@ -176,7 +177,7 @@ value-lies x k = (in-finite values x (compared-ends .1) k, k)
 value-number : (x : Float) → In values x → T (number x)
 value-number x k = in-number values x (compared-ends .1) k
 
-module _ (t : Table) (p : Prices) (s : State) (ts : TableIn t) (ps : TariffIn (p .tariff)) (ha : All AccountIn (s .accounts)) (ho : OffsetsIn (s .offsets)) (hs : T (okSnr (s .snr))) where
+module _ (t : Table) (p : Prices) (s : State) (ts : TableIn t) (ps : TariffIn (p .tariff)) (ha : All AccountIn (s .accounts)) (ho : OffsetsIn (s .core .offsets)) (hs : T (okSnr (s .core .snr))) where
   account-in : (r : ℕ) → AccountIn (account s r)
   account-in r = all-any AccountIn (s .accounts) r noAccount ha no-account-in
 
@@ -184,8 +185,8 @@ module _ (t : Table) (p : Prices) (s : State) (ts : TableIn t) (ps : TariffIn (p
   unfolding estimateAt
   estimate-at-in r snr k =
       let off = offset t s r in
-      estimate-in (account s r) (priorOf (row t r) (t .margin) off snr) (row t r .time) (account-in r)
-      (prior-in (row t r) (t .margin) off snr (ts .rows r) (ts .margin) (pick (In offsets) (isFloor t r) (ho .floor) (ho .ofdm)) k) (ts .rows r .time)
+      estimate-in (account s r) (priorOf (row t r) (t .air .margin) off snr) (row t r .time) (account-in r)
+      (prior-in (row t r) (t .air .margin) off snr (ts .rows r) (ts .margin) (pick (In offsets) (isFloor t r) (ho .floor) (ho .ofdm)) k) (ts .rows r .time)
 
   lossless-in : (r : ℕ) → In rates (lossless t r)
   unfolding lossless
@@ -199,7 +200,7 @@ module _ (t : Table) (p : Prices) (s : State) (ts : TableIn t) (ps : TariffIn (p
 
   value-in : (r : ℕ) → In values (value t p s r)
   unfolding value
-  value-in r = price-in r (estimateAt t s r (s .snr)) (estimate-at-in r (s .snr) hs)
+  value-in r = price-in r (estimateAt t s r (s .core .snr)) (estimate-at-in r (s .core .snr) hs)
 
   lossless-price-in : (r : ℕ) → In values (losslessPrice t p r)
   unfolding losslessPrice
@@ -213,9 +214,9 @@ module _ (t : Table) (p : Prices) (s : State) (ts : TableIn t) (ps : TariffIn (p
 
   rung-compared : Compared t p s
   rung-compared =
-      let here = s .place .0 in
+      let here = s .core .place .0 in
       record {
-        estimates = λ r. rate-lies (estimateAt t s r (s .snr)) (estimate-at-in r (s .snr) hs);
+        estimates = λ r. rate-lies (estimateAt t s r (s .core .snr)) (estimate-at-in r (s .core .snr) hs);
         values = λ r. value-lies (value t p s r) (value-in r);
         lossless-rates = λ r. rate-lies (lossless t r) (lossless-in r);
         lossless-prices = λ r. value-lies (losslessPrice t p r) (lossless-price-in r);

@@ -10,8 +10,8 @@ use lib.Ieee.Scale.{finite}
 use Rattle.float.specs.Numbers.{f64, within, f0, f1, f2, f5, f20}
 use Rattle.limits.specs.Values.{f200, f60, milli, okDb}
 use Rattle.limits.specs.declared.refusal.Verdict.the-variants.{Accepted}
-use Rattle.ladder.specs.declared.types.Reading.{Reading}
-use Rattle.ladder.specs.declared.types.Reading.the-variants.{Missing, Value}
+use Rattle.limits.specs.declared.reading.Reading.{Reading}
+use Rattle.limits.specs.declared.reading.Reading.the-variants.{Missing, Value}
 use Rattle.ladder.specs.declared.types.Table.{Table}
 use Rattle.ladder.specs.Tables.{priorMargin}
 use Rattle.ladder.specs.Types.{row, rungAt}
@@ -21,11 +21,11 @@ use Rattle.account.specs.declared.types.Prices.{Prices}
 use Rattle.account.specs.declared.types.State.{State}
 use Rattle.account.specs.State.{account, timeOf, waitOf, choice}
 use Rattle.account.specs.Price.{burstOr, estimate, estimateAt, lossless, priced, value, losslessPrice, waitSeconds}
-use Rattle.steps.specs.declared.types.Frame.{Frame}
-use Rattle.steps.specs.Echo.{usable, observeSnr}
-use Rattle.steps.specs.Booking.{booked}
-use Rattle.steps.specs.Tries.{judgeAbove, candidate, due, cleanClimb, above, begins}
-use Rattle.steps.specs.Transmission.{inside}
+use Rattle.rules.specs.declared.types.Frame.{Frame}
+use Rattle.rules.specs.Echo.{usable, observeSnr}
+use Rattle.rules.specs.Booking.{booked}
+use Rattle.rules.specs.Tries.{judgeAbove, candidate, due, cleanClimb, above, begins}
+use Rattle.rules.specs.Transmission.{inside}
 use Rattle.rate.specs.declared.types.RateController.{RateController}
 use Rattle.rate.specs.Calls.{Call, Frames, verdict, after}
 use Rattle.waiting.specs.Waiting.{Fresh}
@@ -68,8 +68,8 @@ pub record TableLies (t : Table) : Type 0 where
   pub times : (r : ℕ) → Lies milli f60 (row t r .time)
   pub limits : (r : ℕ) → LiesIn f0 f1 (row t r .limit)
   pub capacities : (r : ℕ) → row t r .capacity ≤ 4096
-  pub margin : Lies f0 priorMargin (t .margin)
-  pub gain : Lies f0 f1 (t .gain)
+  pub margin : Lies f0 priorMargin (t .air .margin)
+  pub gain : Lies f0 f1 (t .air .gain)
 
 pub record TariffLies (p : Tariff) : Type 0 where
   pub floor : Lies f0 f60 (p .floor)
@@ -86,10 +86,10 @@ pub record StateLies (s : State) : Type 0 where
   pub accounts : (r : ℕ) → AccountLies (account s r)
   pub times : (r : ℕ) → Lies f0 longest (timeOf s r)
   pub waits : (r : ℕ) → waitOf s r ≤ 48
-  pub snr : LiesIn (neg f200) f200 (s .snr)
-  pub echo : LiesIn f0 f1 (s .echo)
-  pub floor-offset : Lies (neg f5) f20 (s .offsets .floor)
-  pub ofdm-offset : Lies (neg f5) f20 (s .offsets .ofdm)
+  pub snr : LiesIn (neg f200) f200 (s .core .snr)
+  pub echo : LiesIn f0 f1 (s .core .echo)
+  pub floor-offset : Lies (neg f5) f20 (s .core .offsets .floor)
+  pub ofdm-offset : Lies (neg f5) f20 (s .core .offsets .ofdm)
 
 -- ---- what is compared
 -- "x > y" and "not x <= y" are one test: a NaN would part them
@@ -99,12 +99,12 @@ OneTest x y = lt y x ≡ not (le x y)
 -- Document 01 has ">" throughout; the Rust's `decide` has `<=` in two places, and goes on to the next place, or no further, where it holds.
 -- It passes over a place above the choice whose rung's frames are <= 2
 abbrev pub rustCandidate : Table → State → ℕ → Bool
-rustCandidate t s i = usable t s i && not (ltb (s .place .0) i && le (account s (rungAt t i) .frames) f2)
+rustCandidate t s i = usable t s i && not (ltb (s .core .place .0) i && le (account s (rungAt t i) .frames) f2)
 
 -- and begins no try where the lossless price of the rung above is <= the choice's value
 abbrev pub rustBegins : Table → Prices → State → Bool
 rustBegins t p s =
-    usable t s (suc (s .place .0)) && not (le (losslessPrice t p (above t s)) (value t p s (choice t s))) && (due t p s (above t s) || cleanClimb t p s (above t s))
+    usable t s (suc (s .core .place .0)) && not (le (losslessPrice t p (above t s)) (value t p s (choice t s))) && (due t p s (above t s) || cleanClimb t p s (above t s))
 
 pub record Compared (t : Table) (p : Prices) (s : State) : Type 0 where
   pub estimates : (r : ℕ) → Lies f0 mostRate (estimate t s r)
@@ -124,8 +124,8 @@ pub record Compared (t : Table) (p : Prices) (s : State) : Type 0 where
 -- may have moved before values are compared
 pub record Alike (s z : State) : Type 0 where
   pub accounts : z .accounts ≡ s .accounts
-  pub offsets : z .offsets ≡ s .offsets
-  pub snr : z .snr ≡ s .snr
+  pub offsets : z .core .offsets ≡ s .core .offsets
+  pub snr : z .core .snr ≡ s .core .snr
 
 -- ---- the claim
 -- of one state: its numbers, its waits in seconds, and all that is compared

@@ -14,7 +14,7 @@ use Rattle.limits.specs.declared.refusal.Verdict.{Verdict}
 use Rattle.limits.specs.declared.refusal.Verdict.the-variants.{Accepted}
 use Rattle.limits.specs.declared.refusal.Refusal.{Refusal}
 use Rattle.ladder.specs.Lists.{every}
-use Rattle.ladder.specs.Types.{okLimit}
+use Rattle.limits.specs.Readings.{okLimit}
 use Rattle.ladder.specs.Columns.{okSize}
 use Rattle.ladder.specs.Front.{OneLength, frontVerdict}
 use Rattle.ladder.specs.Tables.{Columns, okSizes, sameSizes, okValues, okFloors, okFront, frontOfColumns, tableVerdict}

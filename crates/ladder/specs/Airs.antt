@@ -4,7 +4,8 @@ use Prim.Native.Nat.{ℕ}
 use lib.ListN.{replicate}
 use lib.Ieee.{Float, neg}
 use Rattle.float.specs.Numbers.{f64}
-use Rattle.ladder.specs.Types.{Reading, Missing, Value}
+use Rattle.limits.specs.declared.reading.Reading.{Reading}
+use Rattle.limits.specs.declared.reading.Reading.the-variants.{Missing, Value}
 use Rattle.ladder.specs.Front.{dataOf}
 use Rattle.ladder.specs.Tables.{Columns}
 

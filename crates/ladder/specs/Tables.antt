@@ -13,7 +13,10 @@ use Rattle.limits.specs.declared.refusal.Verdict.the-variants.{Accepted, Refuse
 use Rattle.limits.specs.declared.refusal.Refusal.{Refusal}
 use Rattle.limits.specs.declared.refusal.Refusal.the-variants.{ColumnSize, ColumnsDiffer, TableValue, FloorCount, EmptyFront}
 use Rattle.ladder.specs.Lists.{every, tabulate}
-use Rattle.ladder.specs.Types.{Reading, Missing, Row, Front, Table, noRow, okLimit}
+use Rattle.limits.specs.declared.reading.Reading.{Reading}
+use Rattle.limits.specs.declared.reading.Reading.the-variants.{Missing}
+use Rattle.limits.specs.Readings.{okLimit}
+use Rattle.ladder.specs.Types.{Row, Front, Air, Table, noRow}
 use Rattle.ladder.specs.Columns.{okSize}
 use Rattle.ladder.specs.Front.{frontOf, frontAs}
 pub use Rattle.ladder.specs.declared.table.Tabled.{Tabled}
@@ -81,7 +84,6 @@ limitAt limits limited r = cond (ltb r limited) (getD limits r Missing) Missing
 abbrev pub rowOf : Columns → ℕ → Row
 rowOf c r = cond (ltb r (length (c .thresholds))) (record {
   threshold = getD (c .thresholds) r f0;
-  payload = getD (c .payloads) r 0;
   capacity = getD (c .capacities) r 0;
   time = getD (c .times) r f1;
   limit = limitAt (c .limits) (c .limited) r;
@@ -101,27 +103,28 @@ familyGain = f½
 abbrev pub tableFrom : List Row → ℕ → ℕ → Front → Table
 tableFrom rows count floors offered = record {
   rows = rows;
-  count = count;
-  floors = floors;
   front = offered .rungs;
-  places = offered .count;
-  margin = priorMargin;
-  gain = familyGain;
+  air = record { count = count; floors = floors; places = offered .count; margin = priorMargin; gain = familyGain };
 }
 
 unfoldable pub tableOf : Columns → Table
 tableOf c = tableFrom (rowsOf c) (length (c .thresholds)) (c .floors) (frontAs (frontOfColumns c))
 
 -- "Margin and family gain are 1 and 1 after `for_air(true)`": `for_air(false)` leaves them
+abbrev pub airFor : Air → Bool → Air
+airFor a wide = record {
+  count = a .count;
+  floors = a .floors;
+  places = a .places;
+  margin = cond wide f1 (a .margin);
+  gain = cond wide f1 (a .gain);
+}
+
 abbrev pub forAir : Table → Bool → Table
 forAir t wide = record {
   rows = t .rows;
-  count = t .count;
-  floors = t .floors;
   front = t .front;
-  places = t .places;
-  margin = cond wide f1 (t .margin);
-  gain = cond wide f1 (t .gain);
+  air = airFor (t .air) wide;
 }
 
 -- what stands beside a refusal: no rung, no place

@@ -4,13 +4,12 @@ use Prim.Native.Nat.{ℕ, min}
 use lib.Dec.{ltb}
 use lib.ListN.{getD}
 use Rattle.float.specs.Numbers.{f0, f1}
-use Rattle.limits.specs.Values.{okDb, okShare}
+use Rattle.limits.specs.declared.reading.Reading.the-variants.{Missing}
 pub use Rattle.ladder.specs.declared.types.Rung.{Rung}
 pub use Rattle.ladder.specs.declared.types.Place.{Place}
-pub use Rattle.ladder.specs.declared.types.Reading.{Reading}
-pub use Rattle.ladder.specs.declared.types.Reading.the-variants.{Missing, Value}
 pub use Rattle.ladder.specs.declared.types.Row.{Row}
 pub use Rattle.ladder.specs.declared.types.Front.{Front}
+pub use Rattle.ladder.specs.declared.types.Air.{Air}
 pub use Rattle.ladder.specs.declared.types.Table.{Table}
 
 abbrev pub rung : ℕ → Rung
@@ -21,17 +20,17 @@ place n = record { 0 = n }
 
 -- a rung outside the table, as the source's `.get(mode)` has it: capacity 0, frame time 1.0, no limit
 abbrev pub noRow : Row
-noRow = record { threshold = f0; payload = 0; capacity = 0; time = f1; limit = Missing }
+noRow = record { threshold = f0; capacity = 0; time = f1; limit = Missing }
 
 abbrev pub row : Table → ℕ → Row
 row t r = getD (t .rows) r noRow
 
 -- an array has 32 entries, so no more than 32 rungs and 32 places are in use, whatever the counts say
 abbrev pub rungsOf : Table → ℕ
-rungsOf t = min 32 (t .count)
+rungsOf t = min 32 (t .air .count)
 
 abbrev pub placesOf : Table → ℕ
-placesOf t = min 32 (t .places)
+placesOf t = min 32 (t .air .places)
 
 -- whether a rung is in the table
 abbrev pub inTable : Table → ℕ → Bool
@@ -43,13 +42,4 @@ rungAt t i = getD (t .front) i (rung 0) .0
 
 -- "Rungs under the floor count are floor, the others OFDM."
 abbrev pub isFloor : Table → ℕ → Bool
-isFloor t r = ltb r (t .floors)
-
--- an echo limit, and an SNR reading, within their limits: one that is missing is
-abbrev pub okLimit : Reading → Bool
-okLimit Missing = true
-okLimit (Value x) = okShare x
-
-abbrev pub okSnr : Reading → Bool
-okSnr Missing = true
-okSnr (Value x) = okDb x
+isFloor t r = ltb r (t .air .floors)

@@ -4,7 +4,7 @@ ghost use Rattle.ladder.specs.Tables.{tabled};
 ghost use Rattle.ladder.specs.Airs.{wideLimits, wideAir, narrowLimits, narrowAir};
 use crate::table::Tabled;
 use crate::table::table_for;
-use crate::types::Reading;
+use limits::reading::Reading;
 
 // ---- wide, 2 300 Hz: rungs 0 to 5 are the tone floor, 6 to 19 the OFDM modes 0 to 13
 // The SNR in 3 kHz at which a rung loses one frame in ten with noise alone (AWGN). The floor's were measured by the source's tools/bench_tone.py

@@ -6,9 +6,9 @@ ghost use lib.Dec.{eqb};
 ghost use lib.ListN.{take};
 ghost use Rattle.limits.specs.Values.{okDb, okAir, okBytes};
 ghost use Rattle.ladder.specs.Lists.{every};
-ghost use Rattle.ladder.specs.Types.{okLimit};
+ghost use Rattle.limits.specs.Readings.{okLimit};
 ghost use Rattle.ladder.specs.Columns.{okSize};
-use crate::types::Reading;
+use limits::reading::Reading;
 
 // A column of 1 to 32 entries.
 pub(crate) fn ok_size(n: usize) -> bool

@@ -1,16 +1,28 @@
 // How a table is read. A rung or a place outside the arrays gets the source's own defaults, so each function is total.
 ghost use mathlib.Core.Path.{_≡_};
-ghost use mathlib.Core.Bool.{cond};
+ghost use Prim.Native.Nat.{min};
 ghost use lib.Dec.{ltb};
-ghost use Rattle.ladder.specs.Types.{noRow, row, rungsOf, placesOf, inTable, rungAt, isFloor, okLimit, okSnr};
+ghost use Rattle.ladder.specs.Types.{noRow, row, rungAt};
+use crate::types::Air;
 use crate::types::Place;
-use crate::types::Reading;
 use crate::types::Row;
 use crate::types::Rung;
 use crate::types::Table;
+use limits::reading::Reading;
 
-// A rung's row; outside the array capacity 0, frame time 1.0 and no limit. (Of a table by value only the part that is indexed is copied, so that part is taken
-// out first, here and below.)
+// The row of a rung outside the table: no bytes, a frame time of 1.0 and no limit.
+pub fn no_row() -> Row
+    ensures { λ r. ⌜ r ≡ noRow ⌝ }
+{
+    Row {
+        threshold: 0.0,
+        capacity: 0,
+        time: 1.0,
+        limit: Reading::Missing,
+    }
+}
+
+// A rung's row. (Of a table by value only the part that is indexed is copied, so that part is taken out first, here and below.)
 pub fn row_of(t: Table, r: Rung) -> Row
     ensures { λ x. ⌜ x ≡ row t (r .0) ⌝ }
 {
@@ -19,30 +31,7 @@ pub fn row_of(t: Table, r: Rung) -> Row
         let i = r.0 as usize;
         rows[i]
     } else {
-        Row {
-            threshold: 0.0,
-            payload: 0,
-            capacity: 0,
-            time: 1.0,
-            limit: Reading::Missing,
-        }
-    }
-}
-
-// The same, from what the array has at the rung's number modulo 32.
-pub fn row_or(r: Rung, row: Row) -> Row
-    ensures { λ x. ⌜ x ≡ cond (ltb (r .0) 32) row noRow ⌝ }
-{
-    if r.0 < 32 {
-        row
-    } else {
-        Row {
-            threshold: 0.0,
-            payload: 0,
-            capacity: 0,
-            time: 1.0,
-            limit: Reading::Missing,
-        }
+        no_row()
     }
 }
 
@@ -59,50 +48,37 @@ pub fn rung_at(t: Table, p: Place) -> Rung
     }
 }
 
-// How many rungs are in use.
-pub fn rungs_of(t: Table) -> u32
-    ensures { λ n. ⌜ n ≡ rungsOf t ⌝ }
+// An array has 32 entries, so no more than 32 of anything are in use, whatever a count says.
+pub fn at_most_32(n: u32) -> u32
+    ensures { λ m. ⌜ m ≡ min 32 n ⌝ }
 {
-    if t.count < 32 { t.count } else { 32 }
+    if n < 32 { n } else { 32 }
+}
+
+// How many rungs are in use.
+pub fn rungs_of(a: Air) -> u32
+    ensures { λ n. ⌜ n ≡ min 32 (a .count) ⌝ }
+{
+    at_most_32(a.count)
 }
 
 // How many places are in use.
-pub fn places_of(t: Table) -> u32
-    ensures { λ n. ⌜ n ≡ placesOf t ⌝ }
+pub fn places_of(a: Air) -> u32
+    ensures { λ n. ⌜ n ≡ min 32 (a .places) ⌝ }
 {
-    if t.places < 32 { t.places } else { 32 }
+    at_most_32(a.places)
 }
 
 // Whether a rung is in the table.
-pub fn in_table(t: Table, r: Rung) -> bool
-    ensures { λ b. ⌜ b ≡ inTable t (r .0) ⌝ }
+pub fn in_table(a: Air, r: Rung) -> bool
+    ensures { λ b. ⌜ b ≡ ltb (r .0) (min 32 (a .count)) ⌝ }
 {
-    r.0 < rungs_of(t)
+    r.0 < rungs_of(a)
 }
 
 // Whether a rung is floor; the others are OFDM.
-pub fn is_floor(t: Table, r: Rung) -> bool
-    ensures { λ b. ⌜ b ≡ isFloor t (r .0) ⌝ }
+pub fn is_floor(a: Air, r: Rung) -> bool
+    ensures { λ b. ⌜ b ≡ ltb (r .0) (a .floors) ⌝ }
 {
-    r.0 < t.floors
-}
-
-// Whether an echo limit is within its limits; a missing one is.
-pub fn ok_limit(l: Reading) -> bool
-    ensures { λ b. ⌜ b ≡ okLimit l ⌝ }
-{
-    match l {
-        Reading::Missing => true,
-        Reading::Value(x) => limits::values::ok_share(x),
-    }
-}
-
-// Whether an SNR reading is within its limits; a missing one is.
-pub fn ok_snr(x: Reading) -> bool
-    ensures { λ b. ⌜ b ≡ okSnr x ⌝ }
-{
-    match x {
-        Reading::Missing => true,
-        Reading::Value(y) => limits::values::ok_db(y),
-    }
+    r.0 < a.floors
 }

@@ -1,19 +1,20 @@
 // An air's table: made of its columns, or turned away by the lowest of the refusals 1 to 5 that applies.
 ghost use mathlib.Core.Bool.{_&&_};
+ghost use mathlib.Core.List.{[]};
 ghost use mathlib.Core.Path.{_≡_};
 ghost use Prim.Native.Nat.{_<_, _≤_};
 ghost use lib.Dec.{leb, eqb};
 ghost use lib.ListN.{length};
-ghost use Rattle.ladder.specs.Types.{noRow};
 ghost use Rattle.ladder.specs.Columns.{okSize};
-ghost use Rattle.ladder.specs.Front.{OneLength};
-ghost use Rattle.ladder.specs.Tables.{columns, okValues, limitAt, rowOf, rowsOf, tableFrom, blankTable, refusedTable, tabled, forAir};
+ghost use Rattle.ladder.specs.Tables.{columns, okValues, limitAt, rowOf, rowsOf, tableFrom, blankTable, refusedTable, tabled, airFor, forAir};
 use crate::columns;
 use crate::front;
+use crate::read;
+use crate::types::Air;
 use crate::types::Front;
-use crate::types::Reading;
 use crate::types::Row;
 use crate::types::Table;
+use limits::reading::Reading;
 use limits::refusal::Refusal;
 use limits::refusal::Verdict;
 
@@ -34,19 +35,6 @@ pub struct Tabled {
     pub table: Table,
 }
 
-// The row past the last rung.
-fn no_row() -> Row
-    ensures { λ r. ⌜ r ≡ noRow ⌝ }
-{
-    Row {
-        threshold: 0.0,
-        payload: 0,
-        capacity: 0,
-        time: 1.0,
-        limit: Reading::Missing,
-    }
-}
-
 // The echo limit of rung `r`: there is none past a short column.
 fn limit_at(limits: [Reading; 32], limited: u32, r: usize) -> Reading
     requires { ⌜ r < 32 ⌝ }
@@ -61,28 +49,25 @@ fn limit_at(limits: [Reading; 32], limited: u32, r: usize) -> Reading
 // The row of rung `r`, or the row past the last rung.
 fn row_at(
     thresholds: &[f64],
-    payloads: &[u32],
     capacities: &[u32],
     times: &[f64],
     limits: [Reading; 32],
     limited: u32,
     r: usize,
 ) -> Row
-    requires { ⌜ OneLength (now thresholds) (now payloads) (now times) ⌝ }
-    requires { ⌜ (length (now capacities) ≡ length (now thresholds)) × (r < 32) ⌝ }
-    ensures { λ x. ⌜ x ≡ rowOf (columns (now (thresholds .entry)) (now (payloads .entry)) (now (capacities .entry)) (now (times .entry)) 0 limits limited) r ⌝ }
+    requires { ⌜ (length (now times) ≡ length (now thresholds)) × (length (now capacities) ≡ length (now thresholds)) ⌝ }
+    requires { ⌜ r < 32 ⌝ }
+    ensures { λ x. ⌜ x ≡ rowOf (columns (now (thresholds .entry)) [] (now (capacities .entry)) (now (times .entry)) 0 limits limited) r ⌝ }
 {
     if r >= thresholds.len() {
-        return no_row();
+        return read::no_row();
     }
     let threshold = thresholds[r];
-    let payload = payloads[r];
     let capacity = capacities[r];
     let time = times[r];
     let limit = limit_at(limits, limited, r);
     Row {
         threshold,
-        payload,
         capacity,
         time,
         limit,
@@ -92,21 +77,19 @@ fn row_at(
 // The rows of the rungs, and past them those of no rung.
 fn rows_of(
     thresholds: &[f64],
-    payloads: &[u32],
     capacities: &[u32],
     times: &[f64],
     limits: [Reading; 32],
     limited: u32,
 ) -> [Row; 32]
-    requires { ⌜ OneLength (now thresholds) (now payloads) (now times) ⌝ }
-    requires { ⌜ length (now capacities) ≡ length (now thresholds) ⌝ }
-    ensures { λ x. ⌜ x ≡ rowsOf (columns (now (thresholds .entry)) (now (payloads .entry)) (now (capacities .entry)) (now (times .entry)) 0 limits limited) ⌝ }
+    requires { ⌜ (length (now times) ≡ length (now thresholds)) × (length (now capacities) ≡ length (now thresholds)) ⌝ }
+    ensures { λ x. ⌜ x ≡ rowsOf (columns (now (thresholds .entry)) [] (now (capacities .entry)) (now (times .entry)) 0 limits limited) ⌝ }
 {
-    let row = no_row();
+    let row = read::no_row();
     let mut rows = [row; 32];
     let mut r = 0;
     while r < 32 {
-        let row = row_at(thresholds, payloads, capacities, times, limits, limited, r);
+        let row = row_at(thresholds, capacities, times, limits, limited, r);
         rows[r] = row;
         r += 1;
     }
@@ -171,23 +154,21 @@ fn table_from(rows: [Row; 32], count: u32, floors: u32, offered: Front) -> Table
     ensures { λ r. ⌜ r ≡ tableFrom rows count floors offered ⌝ }
 {
     let front = offered.rungs;
-    let places = offered.count;
-    Table {
-        rows,
+    let air = Air {
         count,
         floors,
-        front,
-        places,
+        places: offered.count,
         margin: PRIOR_MARGIN_DB,
         gain: FAMILY_GAIN_DB,
-    }
+    };
+    Table { rows, front, air }
 }
 
 // A table of no rungs.
 pub fn blank_table() -> Table
     ensures { λ r. ⌜ r ≡ blankTable ⌝ }
 {
-    let row = no_row();
+    let row = read::no_row();
     let rows = [row; 32];
     let offered = front::no_front();
     table_from(rows, 0, 0, offered)
@@ -233,7 +214,7 @@ pub fn table_for(
     if offered.count < 1 {
         return refused_table(Refusal::EmptyFront);
     }
-    let rows = rows_of(thresholds, payloads, capacities, times, limits, limited);
+    let rows = rows_of(thresholds, capacities, times, limits, limited);
     let count = n as u32;
     let table = table_from(rows, count, floors, offered);
     Tabled {
@@ -242,15 +223,29 @@ pub fn table_for(
     }
 }
 
-// The table with its air's settings of the prior: on the narrow air they stay.
+// The small facts with their air's settings of the prior: on the narrow air they stay.
+fn air_for(a: Air, wide: bool) -> Air
+    ensures { λ r. ⌜ r ≡ airFor a wide ⌝ }
+{
+    if wide {
+        return Air {
+            count: a.count,
+            floors: a.floors,
+            places: a.places,
+            margin: WIDE_PRIOR_MARGIN_DB,
+            gain: WIDE_FAMILY_GAIN_DB,
+        };
+    }
+    a
+}
+
+// The table with its air's settings of the prior.
 pub fn for_air(t: Table, wide: bool) -> Table
     ensures { λ r. ⌜ r ≡ forAir t wide ⌝ }
 {
-    let mut a = t;
-    if wide {
-        a.margin = WIDE_PRIOR_MARGIN_DB;
-        a.gain = WIDE_FAMILY_GAIN_DB;
-        return a;
-    }
-    a
+    let rows = t.rows;
+    let front = t.front;
+    let old = t.air;
+    let air = air_for(old, wide);
+    Table { rows, front, air }
 }

@@ -1,4 +1,5 @@
 // What a table is made of.
+use limits::reading::Reading;
 
 // A rung of the ladder by its number in the table: the source's mode.
 pub struct Rung(pub u32);
@@ -6,16 +7,9 @@ pub struct Rung(pub u32);
 // A place on the front: the source's index. The rung there is `front[place]`.
 pub struct Place(pub u32);
 
-// A reading is missing or carries its value: an SNR, an echo share, an echo limit.
-pub enum Reading {
-    Missing,
-    Value(f64),
-}
-
-// One rung's row: its 10 % point in dB, a frame's payload and data bytes, a frame's air in seconds, and the echo share that it cannot carry.
+// One rung's row: its 10 % point in dB, a frame's data bytes, a frame's air in seconds, and the echo share that it cannot carry.
 pub struct Row {
     pub threshold: f64,
-    pub payload: u32,
     pub capacity: u32,
     pub time: f64,
     pub limit: Reading,
@@ -27,14 +21,19 @@ pub struct Front {
     pub count: u32,
 }
 
-// An air's table: `count` of the rows are in use, `places` of the front's entries, and the first `floors` rungs are floor.
+// The small facts of an air's table: how many rows are in use, how many of the rungs, the first ones, are floor, and how many places the front has.
 // `margin` and `gain` are the settings of the prior: how far under the reading it is read, and how far a frame moves its family's offset.
-pub struct Table {
-    pub rows: [Row; 32],
+pub struct Air {
     pub count: u32,
     pub floors: u32,
-    pub front: [Rung; 32],
     pub places: u32,
     pub margin: f64,
     pub gain: f64,
+}
+
+// An air's table: the rows by rung, the front by place, and all that is no array.
+pub struct Table {
+    pub rows: [Row; 32],
+    pub front: [Rung; 32],
+    pub air: Air,
 }

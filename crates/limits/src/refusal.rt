@@ -1,6 +1,6 @@
 // The causes of a refusal. The paper's number for each is `refusalNumber` of specs/Refusals.antt.
 ghost use mathlib.Core.Path.{_≡_};
-ghost use Rattle.limits.specs.Refusals.{refusalNumber};
+ghost use Rattle.limits.specs.Refusals.{refusalNumber, orElse};
 
 pub enum Refusal {
     // A table column has 0 or over 32 entries (echo column: over 32).
@@ -60,5 +60,15 @@ impl Refusal {
             Refusal::SheetRoom => 13,
             Refusal::AnswerCount => 14,
         }
+    }
+}
+
+// Of two tests in a row, the first that refuses.
+pub fn or_else(v: Verdict, later: Verdict) -> Verdict
+    ensures { λ z. ⌜ z ≡ orElse v later ⌝ }
+{
+    match v {
+        Verdict::Accepted => later,
+        Verdict::Refused(why) => Verdict::Refused(why),
     }
 }

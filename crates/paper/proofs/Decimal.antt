@@ -1,12 +1,11 @@
 -- The digits of a number: one below ten, else those of its tenth and one more. Assumes nothing.
-use mathlib.Core.Path.{_≡_, refl}
-use mathlib.Core.Bool.{Bool, true, false}
+use mathlib.Core.Path.{_≡_, refl, ap, _∙_}
 use mathlib.Core.List.{[], _∷_, _++_}
 use Prim.Native.Nat.{ℕ, zero, suc, _+_, _/_, _%_, _^_, _≤_, _<_}
+use native.Mathlib.Numerals.{add-one}
 use native.Mathlib.Nat.{pow-suc}
 use native.Mathlib.Omega.{arith}
-use borrow.Author.Tests.{lt-ltb, le-ltb, leb-true, leb-false}
-use lib.Dec.{leb}
+use borrow.Author.Tests.{lt-ltb, le-ltb}
 use lib.ListN.{length, length-append}
 use Rattle.paper.specs.Lines.{digits, decimal}
 
@@ -31,11 +30,23 @@ decimal-more (suc n) h = rw (le-ltb (suc n) 10 h, enough n (suc n / 10) (suc n /
 pub length-more : (n : ℕ) → 10 ≤ n → length (decimal n) ≡ length (decimal (n / 10)) + 1
 length-more n h = rw (decimal-more n h, length-append)
 
--- a number below 10 ^ (k + 1) has at most k + 1 digits
-pub short : (k n : ℕ) → n < 10 ^ suc k → length (decimal n) ≤ suc k
-short zero n h = rw (decimal-one n h) (omega arith)
-short (suc k) n h = go (leb 10 n) refl (short k (n / 10) (omega (arith, pow-suc 10 (suc k))))
-  where
-    go : (b : Bool) → leb 10 n ≡ b → length (decimal (n / 10)) ≤ suc k → length (decimal n) ≤ suc (suc k)
-    go true e r = omega (arith, length-more n (leb-true 10 n e))
-    go false e r = rw (decimal-one n (leb-false 10 n e)) (omega arith)
+-- ---- how many digits: from 10 ^ k on, and below 10 ^ (k + 1), one more than k
+ten-most : (k : ℕ) → 10 ≤ 10 ^ suc k
+ten-most zero = omega arith
+ten-most (suc k) = omega (arith, pow-suc 10 (suc k), ten-most k)
+
+pub digit-count : (k n : ℕ) → 10 ^ k ≤ n → n < 10 ^ suc k → length (decimal n) ≡ suc k
+digit-count zero n g h = rw (decimal-one n h)
+digit-count (suc k) n g h =
+    let p = pow-suc 10 k in
+    let q = pow-suc 10 (suc k) in
+    length-more n (omega (arith, ten-most k)) ∙ ap (λ m. m + 1) (digit-count k (n / 10) (omega (arith, p, q)) (omega (arith, p, q))) ∙ add-one (suc k)
+
+-- ---- written out
+pub decimal-two : (n : ℕ) → 10 ≤ n → n < 100 → decimal n ≡ (48 + n / 10) ∷ (48 + n % 10) ∷ []
+decimal-two n g h = rw (decimal-more n g, decimal-one (n / 10) (omega arith)) refl
+
+pub decimal-three : (n : ℕ) → 100 ≤ n → n < 1000 → decimal n ≡ (48 + n / 100) ∷ (48 + n / 10 % 10) ∷ (48 + n % 10) ∷ []
+decimal-three n g h =
+    let q : n / 10 / 10 ≡ n / 100 = omega arith in
+    rw (decimal-more n (omega arith), decimal-two (n / 10) (omega arith) (omega arith), q) refl

@@ -6,10 +6,10 @@ use Rattle.ladder.specs.Lists.{tabulate}
 use Rattle.ladder.specs.declared.types.Table.{Table}
 use Rattle.ladder.specs.Types.{rungsOf}
 use Rattle.account.specs.declared.types.Account.{Account}
-use Rattle.steps.specs.declared.types.Frame.{Frame}
-use Rattle.steps.specs.Booking.{bookFrame, book}
-use Rattle.paper.specs.Body.{frameCount, frameBytes, frameOf, frameAt, framesIn}
-use Rattle.paper.proofs.Ranges.{tabulate-all, tabulate-next, tabulate-none}
+use Rattle.rules.specs.declared.types.Frame.{Frame}
+use Rattle.rules.specs.Booking.{bookFrame, book}
+use Rattle.question.specs.Body.{frameCount, frameBytes, frameOf, frameAt, framesIn}
+use Rattle.question.proofs.Ranges.{tabulate-all, tabulate-next, tabulate-none}
 
 -- the frames from i up to n
 unfoldable pub framesFrom : List ℕ → ℕ → ℕ → List Frame

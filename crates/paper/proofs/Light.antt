@@ -9,19 +9,20 @@ use lib.Ieee.{Float}
 use lib.ListN.{drop}
 use Rattle.limits.specs.declared.refusal.Verdict.{Verdict}
 use Rattle.limits.specs.declared.refusal.Verdict.the-variants.{Accepted, Refused}
-use Rattle.ladder.specs.declared.types.Reading.{Reading}
+use Rattle.limits.specs.declared.reading.Reading.{Reading}
 use Rattle.ladder.specs.declared.types.Table.{Table}
 use Rattle.ladder.proofs.Cases.{or-left, or-right}
 use Rattle.account.specs.declared.types.Prices.{Prices}
-use Rattle.steps.specs.declared.types.Frame.{Frame}
+use Rattle.rules.specs.declared.types.Frame.{Frame}
 use Rattle.rate.specs.declared.types.RateController.{RateController}
 use Rattle.rate.specs.Calls.{Call, Frames, Echo, Silence, Snr, Seed, Price, Family, verdict, accepted, answered, step}
-use Rattle.play.specs.declared.types.Core.{Core}
-use Rattle.play.specs.declared.types.Moved.{Moved}
-use Rattle.play.specs.Held.{held, playing, movedOf, refusedMove}
-use Rattle.play.proofs.Framing.{echo-keeps, echo-moves, silence-keeps, silence-moves, snr-keeps, snr-moves, seed-keeps, seed-moves}
-use Rattle.paper.specs.Bytes.{byte, float, readingOf}
-use Rattle.paper.specs.Body.{kind, framesIn, burstsIn, callOf}
+use Rattle.account.specs.declared.types.Core.{Core}
+use Rattle.rate.specs.declared.types.Moved.{Moved}
+use Rattle.steps.specs.bridges.Held.{held}
+use Rattle.rate.specs.bridges.Playing.{playing, movedOf, refusedMove}
+use Rattle.rate.proofs.Framing.{echo-keeps, echo-moves, silence-keeps, silence-moves, snr-keeps, snr-moves, seed-keeps, seed-moves}
+use Rattle.question.specs.Bytes.{byte, float, readingOf}
+use Rattle.question.specs.Body.{kind, framesIn, burstsIn, callOf}
 use Rattle.paper.proofs.Playing.{pricing}
 
 -- ---- the call by the kind

@@ -14,13 +14,14 @@ use Rattle.ladder.specs.declared.types.Table.{Table}
 use Rattle.ladder.specs.Tables.{blankTable, tableOf, forAir}
 use Rattle.ladder.specs.Airs.{wideAir, narrowAir}
 use Rattle.account.specs.declared.types.Prices.{Prices}
-use Rattle.account.specs.State.{unpriced, freshState}
-use Rattle.steps.specs.Echo.{refuses, allOut}
+use Rattle.account.specs.State.{unpriced, freshCore, freshState}
+use Rattle.rules.specs.Echo.{refuses, allOut}
 use Rattle.rate.specs.declared.types.RateController.{RateController}
 use Rattle.rate.specs.declared.types.Answer.{Answer}
 use Rattle.rate.specs.Calls.{Call, Frames, Echo, Silence, Snr, Seed, Price, Family, freshController, verdict, accepted, answered, step}
-use Rattle.play.specs.declared.types.Core.{Core}
-use Rattle.play.specs.Held.{accountsOf, held, coreOf, playing, movedOf, answerOf}
+use Rattle.account.specs.declared.types.Core.{Core}
+use Rattle.steps.specs.bridges.Held.{accountsOf, held}
+use Rattle.rate.specs.bridges.Playing.{playing, movedOf, answerOf}
 use Rattle.paper.specs.Sheet.{freshFor, lineBy, lineOf}
 
 -- ---- no call changes the table
@@ -88,12 +89,12 @@ fresh-table : (b : Bool) (k h : RateController) → freshController (k .table) �
 fresh-table true k h e f = e
 fresh-table false k h e f = f
 
-pub fresh-for : (a : ℕ) → freshController (freshFor a .table) ≡ freshFor a
+fresh-for : (a : ℕ) → freshController (freshFor a .table) ≡ freshFor a
 unfolding freshFor
 fresh-for a = fresh-table (eqb a 1) (freshController (forAir (tableOf wideAir) true)) (freshController (forAir (tableOf narrowAir) false)) refl refl
 
 -- the first event's
-pub first-playing : (a : ℕ) (t : Table) (p : Prices) (c : Core) → t ≡ freshFor a .table → p ≡ unpriced → c ≡ coreOf freshState → playing t p (replicate 96 f0) (replicate 32 f0) (replicate 32 6) c ≡ freshFor a
+pub first-playing : (a : ℕ) (t : Table) (p : Prices) (c : Core) → t ≡ freshFor a .table → p ≡ unpriced → c ≡ freshCore → playing t p (replicate 96 f0) (replicate 32 f0) (replicate 32 6) c ≡ freshFor a
 unfolding accountsOf
 first-playing a t p c e f g = rw (e, f, g) (fresh-for a)
 

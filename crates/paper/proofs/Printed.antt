@@ -1,22 +1,21 @@
 -- What the program prints of a file, from what the sheet call answered and left; a buffer with room for the line of a refused file holds all of it.
 -- Assumes nothing.
 use mathlib.Core.Path.{_≡_, refl, sym, ap, _∙_}
-use mathlib.Core.Bool.{_&&_}
 use mathlib.Core.List.{List}
 use Prim.Native.Nat.{ℕ, _≤_}
 use native.Mathlib.Omega.{arith}
 use borrow.Author.Tests.{le-leb}
 use lib.Dec.{leb, leb→le}
 use lib.ListN.{length}
-use lib.Ieee.Fits.{and-r}
 use Rattle.limits.specs.Refusals.{unless}
 use Rattle.limits.specs.declared.refusal.Refusal.{Refusal}
 use Rattle.limits.specs.declared.refusal.Refusal.the-variants.{ColumnSize, ColumnsDiffer, TableValue, FloorCount, EmptyFront, UnknownRung, TooManyFrames, OutsideLimits, TooManyBursts, FileHeader, FilePairs, FileBody, SheetRoom, AnswerCount}
 use Rattle.limits.specs.declared.refusal.Verdict.{Verdict}
 use Rattle.limits.specs.declared.refusal.Verdict.the-variants.{Accepted, Refused}
 use Rattle.limits.proofs.Verdicts.{or-else, unless-not}
-use Rattle.paper.specs.File.{eventCount, air, knownAir, okHeader, fileVerdict}
-use Rattle.paper.specs.Lines.{digits, decimal, ended, rowOf, over}
+use Rattle.question.specs.File.{fileVerdict}
+use Rattle.paper.specs.Lines.{digits, decimal, ended, rowOf}
+use Rattle.question.specs.Over.{over}
 use Rattle.paper.specs.Sheet.{refusedBytes, sheetOf, sheetVerdict, sheetBy, sheetAnswer, leftBy, sheetLeft, printedBy, printed, fitting, printedIn}
 use Rattle.paper.specs.declared.types.Sheet.the-variants as sheet
 
@@ -24,13 +23,6 @@ use Rattle.paper.specs.declared.types.Sheet.the-variants as sheet
 pub fits : (text out : List ℕ) → length text ≤ length out → fitting text out ≡ text
 unfolding fitting
 fits text out h = rw (le-leb (length text) (length out) h)
-
--- an accepted file has 1,000 events at most
-pub few-events : (s : List ℕ) → fileVerdict s ≡ Accepted → eventCount s ≤ 1000
-unfolding fileVerdict okHeader
-few-events s e =
-    let h = unless-not (okHeader s) FileHeader (or-else (unless (okHeader s) FileHeader) _ e .0) in
-    leb→le (eventCount s) 1000 (and-r (leb 8 (length s) && leb (length s) 65536 && knownAir (air s)) (leb (eventCount s) 1000) h)
 
 -- an accepted sheet has room
 sheet-room : (s out : List ℕ) → sheetVerdict s out ≡ Accepted → length (sheetOf s) ≤ length out

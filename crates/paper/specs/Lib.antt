@@ -1,5 +1,3 @@
-pub mod Bytes
 pub mod Lines
-pub mod Body
-pub mod File
 pub mod Sheet
+pub mod bridges

@@ -1,11 +1,8 @@
--- The bytes of a number, of a field and of a line, and what a slice holds that bytes were written to. Definitions only.
+-- The bytes of a number, of a field and of a line. Definitions only.
 use mathlib.Core.Bool.{cond}
 use mathlib.Core.List.{List, [], _∷_, _++_}
 use Prim.Native.Nat.{ℕ, zero, suc, _+_, _/_, _%_}
 use lib.Dec.{ltb}
-use lib.ListN.{length, drop}
-pub use Rattle.paper.specs.declared.types.Cell.{Cell}
-pub use Rattle.paper.specs.declared.types.Cell.the-variants.{Number, Dash, Word}
 
 -- "Fields are decimal": the digits of n in ASCII, the highest first. The first argument only bounds how many there are, and n itself does.
 unfoldable pub digits : ℕ → ℕ → List ℕ
@@ -16,7 +13,13 @@ unfoldable pub decimal : ℕ → List ℕ
 unfolding digits
 decimal n = digits n n
 
--- a field's bytes: a number, `-`, or the word `refused`
+-- a field: a number, `-`, or the word `refused`
+pub data Cell : Type 0 where
+  Number : ℕ → Cell
+  Dash : Cell
+  Word : Cell
+
+-- its bytes
 abbrev pub cellBytes : Cell → List ℕ
 cellBytes (Number n) = decimal n
 cellBytes Dash = 45 ∷ []
@@ -31,11 +34,3 @@ unfoldable pub rowOf : List Cell → List ℕ
 rowOf [] = []
 rowOf (c ∷ []) = ended c 10
 rowOf (c ∷ d ∷ cs) = ended c 32 ++ rowOf (d ∷ cs)
-
--- the byte after the i-th of n fields
-unfoldable pub endOf : ℕ → ℕ → ℕ
-endOf i n = cond (ltb (i + 1) n) 32 10
-
--- what a slice or an array holds once xs stands over its start: "bytes of the output slice past the sheet stay"
-unfoldable pub over : {A : Type 0} → List A → List A → List A
-over xs old = xs ++ drop (length xs) old

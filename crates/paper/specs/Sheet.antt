@@ -3,7 +3,7 @@ use mathlib.Core.Bool.{Bool, true, false, cond}
 use mathlib.Core.List.{List, [], _∷_, _++_}
 use Prim.Native.Nat.{ℕ, suc, _+_}
 use lib.Dec.{leb, eqb}
-use lib.ListN.{length, replicate}
+use lib.ListN.{length}
 use Rattle.limits.specs.Refusals.{refusalNumber, unless, orElse}
 use Rattle.limits.specs.declared.refusal.Refusal.{Refusal}
 use Rattle.limits.specs.declared.refusal.Refusal.the-variants.{SheetRoom, AnswerCount}
@@ -12,16 +12,17 @@ use Rattle.limits.specs.declared.refusal.Verdict.the-variants.{Accepted, Refuse
 use Rattle.ladder.specs.Lists.{tabulate}
 use Rattle.ladder.specs.Tables.{tableOf, forAir}
 use Rattle.ladder.specs.Airs.{wideAir, narrowAir}
-use Rattle.steps.specs.Echo.{refuses}
+use Rattle.rules.specs.Echo.{refuses}
 use Rattle.rate.specs.declared.types.RateController.{RateController}
 use Rattle.rate.specs.declared.types.Answer.{Answer}
 use Rattle.rate.specs.declared.types.Probing.{Probing}
 use Rattle.rate.specs.declared.types.Probing.the-variants.{Nothing, At}
 use Rattle.rate.specs.Calls.{Call, freshController, step}
 use Rattle.rate.specs.Reads.{choiceOf, probingOf}
-use Rattle.paper.specs.Body.{callOf}
-use Rattle.paper.specs.File.{eventCount, air, bodyAt, fileVerdict}
-use Rattle.paper.specs.Lines.{Cell, Number, Dash, Word, rowOf, over}
+use Rattle.question.specs.Body.{callOf}
+use Rattle.question.specs.File.{eventCount, air, bodyAt, fileVerdict}
+use Rattle.paper.specs.Lines.{Cell, Number, Dash, Word, rowOf}
+use Rattle.question.specs.Over.{over}
 pub use Rattle.paper.specs.declared.types.Line.{Line}
 pub use Rattle.paper.specs.declared.types.Score.{Score}
 pub use Rattle.paper.specs.declared.types.Sheet.{Sheet}
@@ -44,7 +45,7 @@ callsOf s = tabulate (eventCount s) 0 (callAt s)
 -- ---- a line
 -- "OFDM refused": what `refuses` says of every OFDM rung, of which the floor count is one
 abbrev pub ofdmRefused : RateController → Bool
-ofdmRefused k = refuses (k .table) (k .state) (k .table .floors)
+ofdmRefused k = refuses (k .table) (k .state) (k .table .air .floors)
 
 -- what is said of an event: choice, tried rung, OFDM refused, ended and begun, or its refusal
 abbrev pub lineBy : Answer → Verdict → Line
@@ -69,14 +70,6 @@ abbrev pub cellsOf : ℕ → Line → List Cell
 cellsOf event (line.Answered choice tried ofdm ended begun) =
     Number event ∷ Number (choice .0) ∷ triedCell tried ∷ flagCell ofdm ∷ flagCell ended ∷ flagCell begun ∷ []
 cellsOf event (line.Refused why) = Number event ∷ Word ∷ Number (refusalNumber why) ∷ []
-
--- how many fields that is, and the array of six that holds them
-abbrev pub cellCount : Line → ℕ
-cellCount (line.Answered choice tried ofdm ended begun) = 6
-cellCount (line.Refused why) = 3
-
-unfoldable pub sixCells : List Cell → List Cell
-sixCells cs = over cs (replicate 6 Dash)
 
 unfoldable pub lineBytes : ℕ → Line → List ℕ
 lineBytes event l = rowOf (cellsOf event l)

@@ -1,26 +1,27 @@
 // A frames event in place: two passes over the frames of its body, one that checks them and one that books them.
 ghost use mathlib.Core.Path.{_≡_};
 ghost use lib.ListN.{length, drop};
-ghost use Rattle.steps.specs.Booking.{book};
-ghost use Rattle.steps.specs.Check.{beginCheck, checkAll};
+ghost use Rattle.rules.specs.Booking.{book};
+ghost use Rattle.rules.specs.bridges.Check.{beginCheck, checkAll};
 ghost use Rattle.rate.specs.Calls.{accepted, step, Frames};
-ghost use Rattle.play.specs.Held.{rowsOf, frontOf, accountsOf, playing, answerOf};
-ghost use Rattle.play.specs.Pass.{Kept, beginPass, passAll};
-ghost use Rattle.paper.specs.Bytes.{readingOf};
-ghost use Rattle.paper.specs.Body.{framesIn};
-use crate::body::frame_count;
-use crate::body::frame_of;
-use crate::bytes::past;
-use crate::bytes::reading_of;
+ghost use Rattle.steps.specs.bridges.Held.{Lent, Sized, laid, accountsOf};
+ghost use Rattle.rate.specs.bridges.Playing.{playing, answerOf};
+ghost use Rattle.steps.specs.bridges.Pass.{Kept, beginPass, passAll};
+ghost use Rattle.question.specs.Bytes.{readingOf};
+ghost use Rattle.question.specs.Body.{framesIn};
+use account::types::Core;
 use account::types::Prices;
-use ladder::types::Reading;
+use ladder::types::Air;
 use ladder::types::Rung;
-use ladder::types::Table;
+use limits::reading::Reading;
 use limits::refusal::Verdict;
-use play::types::Core;
-use play::types::Moved;
-use play::types::Pass;
-use steps::check::Check;
+use question::body::frame_count;
+use question::body::frame_of;
+use question::bytes::past;
+use question::bytes::reading_of;
+use rate::types::Moved;
+use rules::check::Check;
+use steps::types::Pass;
 
 // What a pass over a body's frames gathered, and the air of the last one, which the factors kept are for.
 pub struct Booked {
@@ -35,21 +36,22 @@ pub struct Played {
 }
 
 // Which frames of a body are refused.
-fn check_body(t: Table, body: &[u8]) -> Check
+fn check_body(t: Air, body: &[u8]) -> Check
     ensures { λ r. ⌜ r ≡ checkAll (beginCheck t) (framesIn (now (body .entry))) ⌝ }
 {
-    let mut v = steps::check::begin_check(t);
+    let mut v = rules::check::begin_check(t);
     let n = frame_count(body);
     for i in 0..n {
-        v = steps::check::check_frame(v, frame_of(past(body, 10 + 12 * i)));
+        v = rules::check::check_frame(v, frame_of(past(body, 10 + 12 * i)));
     }
     v
 }
 
 // The frames of a body booked, one after the other, the choice being the rung `here`.
 fn book_body(
-    t: Table,
-    rows: &[f64],
+    t: Air,
+    reals: &[f64],
+    wholes: &[u32],
     fades: &mut [f64],
     books: &mut [f64],
     c: Core,
@@ -57,33 +59,33 @@ fn book_body(
     last: f64,
     body: &[u8],
 ) -> Booked
-    requires { ⌜ now rows ≡ rowsOf t ⌝ }
+    requires { ⌜ Lent (now reals) (now wholes) ⌝ }
     requires { ⌜ length (now fades) ≡ 96 ⌝ }
     requires { ⌜ length (now books) ≡ 96 ⌝ }
-    requires { ⌜ Kept t last (now fades) ⌝ }
-    ensures { λ r. ⌜ accountsOf (now (books .exit)) ≡ book t (framesIn (now (body .entry))) (accountsOf (now (books .entry))) ⌝ }
-    ensures { λ r. ⌜ r .pass ≡ passAll t c (here .0) (beginPass c) (framesIn (now (body .entry))) ⌝ }
-    ensures { λ r. ⌜ Kept t (r .faded) (now (fades .exit)) ⌝ }
+    requires { ⌜ Kept (laid t (now reals) (now wholes)) last (now fades) ⌝ }
+    ensures { λ r. ⌜ accountsOf (now (books .exit)) ≡ book (laid t (now (reals .entry)) (now (wholes .entry))) (framesIn (now (body .entry))) (accountsOf (now (books .entry))) ⌝ }
+    ensures { λ r. ⌜ r .pass ≡ passAll (laid t (now (reals .entry)) (now (wholes .entry))) c (here .0) (beginPass c) (framesIn (now (body .entry))) ⌝ }
+    ensures { λ r. ⌜ Kept (laid t (now (reals .entry)) (now (wholes .entry))) (r .faded) (now (fades .exit)) ⌝ }
 {
-    let mut pass = play::booking::begin_pass(c);
+    let mut pass = steps::booking::begin_pass(c);
     let mut faded = last;
     let n = frame_count(body);
     for i in 0..n {
         let f = frame_of(past(body, 10 + 12 * i));
-        play::booking::keep_fades(t, rows, fades, f.air, faded);
+        steps::booking::keep_fades(t, reals, wholes, fades, f.air, faded);
         faded = f.air;
-        play::booking::book_accounts(t, books, fades, f);
-        pass = play::booking::gather(t, rows, c, here, pass, f);
+        steps::booking::book_accounts(t, books, fades, f);
+        pass = steps::booking::gather(t, reals, wholes, c, here, pass, f);
     }
     Booked { pass, faded }
 }
 
 // Accepted: of an empty list only the SNR is taken.
 fn take_frames(
-    t: Table,
+    t: Air,
     p: Prices,
-    rows: &[f64],
-    front: &[u32],
+    reals: &[f64],
+    wholes: &[u32],
     fades: &mut [f64],
     books: &mut [f64],
     since: &mut [f64],
@@ -93,29 +95,26 @@ fn take_frames(
     body: &[u8],
     snr: Reading,
 ) -> Played
-    requires { ⌜ now rows ≡ rowsOf t ⌝ }
-    requires { ⌜ now front ≡ frontOf t ⌝ }
+    requires { ⌜ Lent (now reals) (now wholes) ⌝ }
     requires { ⌜ length (now fades) ≡ 96 ⌝ }
-    requires { ⌜ length (now books) ≡ 96 ⌝ }
-    requires { ⌜ length (now since) ≡ 32 ⌝ }
-    requires { ⌜ length (now wait) ≡ 32 ⌝ }
-    requires { ⌜ Kept t last (now fades) ⌝ }
-    ensures { λ r. ⌜ answerOf t p (now (books .exit)) (now (since .exit)) (now (wait .exit)) (r .moved) ≡ accepted (playing t p (now (books .entry)) (now (since .entry)) (now (wait .entry)) c) (Frames (framesIn (now (body .entry))) snr) ⌝ }
-    ensures { λ r. ⌜ Kept t (r .faded) (now (fades .exit)) ⌝ }
+    requires { ⌜ Sized (now books) (now since) (now wait) ⌝ }
+    requires { ⌜ Kept (laid t (now reals) (now wholes)) last (now fades) ⌝ }
+    ensures { λ r. ⌜ answerOf (laid t (now (reals .entry)) (now (wholes .entry))) p (now (books .exit)) (now (since .exit)) (now (wait .exit)) (r .moved) ≡ accepted (playing (laid t (now (reals .entry)) (now (wholes .entry))) p (now (books .entry)) (now (since .entry)) (now (wait .entry)) c) (Frames (framesIn (now (body .entry))) snr) ⌝ }
+    ensures { λ r. ⌜ Kept (laid t (now (reals .entry)) (now (wholes .entry))) (r .faded) (now (fades .exit)) ⌝ }
 {
     let before = c.trying;
-    let z = play::echo::observe_snr(c, snr);
+    let z = steps::echo::observe_snr(c, snr);
     if frame_count(body) == 0 {
-        let moved = play::calls::done(before, z, false);
+        let moved = rate::inplace::done(before, z, false);
         return Played { moved, faded: last };
     }
     let place = z.place;
-    let here = play::read::rung_in(t, front, place);
-    let b = book_body(t, rows, fades, books, z, here, last, body);
+    let here = steps::read::rung_in(wholes, place);
+    let b = book_body(t, reals, wholes, fades, books, z, here, last, body);
     let y = b.pass;
-    let d = play::frames::transmit(t, p, rows, front, books, since, wait, z, y);
+    let d = steps::frames::transmit(t, p, reals, wholes, books, since, wait, z, y);
     let core = d.core;
-    let moved = play::calls::done(before, core, d.begun);
+    let moved = rate::inplace::done(before, core, d.begun);
     Played {
         moved,
         faded: b.faded,
@@ -124,10 +123,10 @@ fn take_frames(
 
 // The frames of one transmission, and its SNR reading. Refused: 6, 7, 8.
 pub(crate) fn frames_event(
-    t: Table,
+    t: Air,
     p: Prices,
-    rows: &[f64],
-    front: &[u32],
+    reals: &[f64],
+    wholes: &[u32],
     fades: &mut [f64],
     books: &mut [f64],
     since: &mut [f64],
@@ -136,15 +135,12 @@ pub(crate) fn frames_event(
     last: f64,
     body: &[u8],
 ) -> Played
-    requires { ⌜ now rows ≡ rowsOf t ⌝ }
-    requires { ⌜ now front ≡ frontOf t ⌝ }
+    requires { ⌜ Lent (now reals) (now wholes) ⌝ }
     requires { ⌜ length (now fades) ≡ 96 ⌝ }
-    requires { ⌜ length (now books) ≡ 96 ⌝ }
-    requires { ⌜ length (now since) ≡ 32 ⌝ }
-    requires { ⌜ length (now wait) ≡ 32 ⌝ }
-    requires { ⌜ Kept t last (now fades) ⌝ }
-    ensures { λ r. ⌜ answerOf t p (now (books .exit)) (now (since .exit)) (now (wait .exit)) (r .moved) ≡ step (playing t p (now (books .entry)) (now (since .entry)) (now (wait .entry)) c) (Frames (framesIn (now (body .entry))) (readingOf (drop 1 (now (body .entry))))) ⌝ }
-    ensures { λ r. ⌜ Kept t (r .faded) (now (fades .exit)) ⌝ }
+    requires { ⌜ Sized (now books) (now since) (now wait) ⌝ }
+    requires { ⌜ Kept (laid t (now reals) (now wholes)) last (now fades) ⌝ }
+    ensures { λ r. ⌜ answerOf (laid t (now (reals .entry)) (now (wholes .entry))) p (now (books .exit)) (now (since .exit)) (now (wait .exit)) (r .moved) ≡ step (playing (laid t (now (reals .entry)) (now (wholes .entry))) p (now (books .entry)) (now (since .entry)) (now (wait .entry)) c) (Frames (framesIn (now (body .entry))) (readingOf (drop 1 (now (body .entry))))) ⌝ }
+    ensures { λ r. ⌜ Kept (laid t (now (reals .entry)) (now (wholes .entry))) (r .faded) (now (fades .exit)) ⌝ }
 {
     let snr = reading_of(past(body, 1));
     let v = check_body(t, body);
@@ -152,8 +148,8 @@ pub(crate) fn frames_event(
         Verdict::Accepted => take_frames(
             t,
             p,
-            rows,
-            front,
+            reals,
+            wholes,
             fades,
             books,
             since,
@@ -164,7 +160,7 @@ pub(crate) fn frames_event(
             snr,
         ),
         Verdict::Refused(why) => {
-            let moved = play::calls::refused(c, why);
+            let moved = rate::inplace::refused(c, why);
             Played { moved, faded: last }
         }
     }

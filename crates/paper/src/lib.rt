@@ -1,16 +1,12 @@
-// Document 01's section "Question file, sheet, marking": the file's forms and refusals 10 to 12, the sheet of a file, which runs a controller through
-// its events, and the marking of answers.
-pub mod body;
-pub mod bytes;
-pub mod event;
-pub mod file;
+// Document 01's section "Question file, sheet, marking", but for the question file, which is crate `question`: one run of a file's events through a
+// controller, the sheet that is printed from their outcomes, and the marking of answers by them.
 mod frames;
 mod lines;
 pub mod mark;
+mod outcome;
 mod player;
-mod reader;
+mod run;
 pub mod sheet;
 mod start;
 mod text;
 pub mod types;
-pub mod verdict;

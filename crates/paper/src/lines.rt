@@ -1,105 +1,117 @@
-// An event's line, and the line of a refused file. The writers are inner: each caller has shown that 66 bytes, six fields of eleven, have room.
+// An event's line by its outcome, the line of a refused file, and how long they are. A line goes to a slice that has room for it, piece by piece: each
+// after the bytes already written, into the part of the slice that is lent from there. The writers return how many bytes they took.
 ghost use mathlib.Core.Path.{_≡_};
+ghost use mathlib.Core.List.{[], _∷_};
 ghost use Prim.Native.Nat.{_≤_};
 ghost use lib.ListN.{length};
-ghost use Rattle.paper.specs.Lines.{over};
-ghost use Rattle.paper.specs.Sheet.{triedCell, flagCell, cellsOf, cellCount, sixCells, lineBytes, refusedCells, refusedBytes};
-use crate::text::write_row;
-use crate::types::Cell;
-use crate::types::Line;
-use limits::refusal::Refusal;
-use rate::types::Probing;
+ghost use Rattle.question.specs.Over.{over};
+ghost use Rattle.paper.specs.Lines.{Number, Word, cellBytes, ended, rowOf};
+ghost use Rattle.paper.specs.bridges.Outcomes.{triedBy, flagsBy, answeredBy, refusedBy, cellsBy};
+use crate::outcome::Outcome;
+use crate::text::digits_of;
+use crate::text::write_bytes;
+use crate::text::write_field;
 
-fn tried_cell(tried: Probing) -> Cell
-    ensures { λ r. ⌜ r ≡ triedCell tried ⌝ }
+// ---- pieces
+// The tried rung or `-`, and a space.
+fn write_tried(out: &mut [u8], o: Outcome) -> usize
+    requires { ⌜ length (ended (triedBy o) 32) ≤ length (now out) ⌝ }
+    ensures { λ r. ⌜ r ≡ length (ended (triedBy o) 32) ⌝ }
+    ensures { λ r. ⌜ now (out .exit) ≡ over (ended (triedBy o) 32) (now (out .entry)) ⌝ }
 {
-    match tried {
-        Probing::Nothing => Cell::Dash,
-        Probing::At(rung) => Cell::Number(rung.0),
+    if o.marks / 8 % 2 == 1 {
+        return write_field(out, o.tried, 32);
     }
+    out[0] = 45;
+    out[1] = 32;
+    2
 }
 
-fn flag_cell(flag: bool) -> Cell
-    ensures { λ r. ⌜ r ≡ flagCell flag ⌝ }
+// The three flags that end the line of an answered event.
+fn write_flags(out: &mut [u8], marks: u32) -> usize
+    requires { ⌜ length (rowOf (flagsBy marks)) ≤ length (now out) ⌝ }
+    ensures { λ r. ⌜ r ≡ length (rowOf (flagsBy marks)) ⌝ }
+    ensures { λ r. ⌜ now (out .exit) ≡ over (rowOf (flagsBy marks)) (now (out .entry)) ⌝ }
 {
-    if flag {
-        Cell::Number(1)
-    } else {
-        Cell::Number(0)
+    out[0] = 48 + (marks / 4 % 2) as u8;
+    out[1] = 32;
+    out[2] = 48 + (marks / 2 % 2) as u8;
+    out[3] = 32;
+    out[4] = 48 + (marks % 2) as u8;
+    out[5] = 10;
+    6
+}
+
+// `refused` and a number.
+pub(crate) fn write_refused(out: &mut [u8], n: u32) -> usize
+    requires { ⌜ length (rowOf (Word ∷ Number n ∷ [])) ≤ length (now out) ⌝ }
+    ensures { λ r. ⌜ r ≡ length (rowOf (Word ∷ Number n ∷ [])) ⌝ }
+    ensures { λ r. ⌜ now (out .exit) ≡ over (rowOf (Word ∷ Number n ∷ [])) (now (out .entry)) ⌝ }
+{
+    let k = write_bytes(out, b"refused ");
+    k + write_field(&mut out[k..], n, 10)
+}
+
+// ---- lines
+// The line of an answered event.
+fn write_answered(out: &mut [u8], event: u32, o: Outcome) -> usize
+    requires { ⌜ length (rowOf (answeredBy event o)) ≤ length (now out) ⌝ }
+    ensures { λ r. ⌜ r ≡ length (rowOf (answeredBy event o)) ⌝ }
+    ensures { λ r. ⌜ now (out .exit) ≡ over (rowOf (answeredBy event o)) (now (out .entry)) ⌝ }
+{
+    let mut len = write_field(out, event, 32);
+    len += write_field(&mut out[len..], o.number, 32);
+    len += write_tried(&mut out[len..], o);
+    len + write_flags(&mut out[len..], o.marks)
+}
+
+// The line of a refused event.
+fn write_turned_away(out: &mut [u8], event: u32, o: Outcome) -> usize
+    requires { ⌜ length (rowOf (refusedBy event o)) ≤ length (now out) ⌝ }
+    ensures { λ r. ⌜ r ≡ length (rowOf (refusedBy event o)) ⌝ }
+    ensures { λ r. ⌜ now (out .exit) ≡ over (rowOf (refusedBy event o)) (now (out .entry)) ⌝ }
+{
+    let k = write_field(out, event, 32);
+    k + write_refused(&mut out[k..], o.number)
+}
+
+// An event's line.
+pub(crate) fn write_line(out: &mut [u8], event: u32, o: Outcome) -> usize
+    requires { ⌜ length (rowOf (cellsBy event o)) ≤ length (now out) ⌝ }
+    ensures { λ r. ⌜ r ≡ length (rowOf (cellsBy event o)) ⌝ }
+    ensures { λ r. ⌜ now (out .exit) ≡ over (rowOf (cellsBy event o)) (now (out .entry)) ⌝ }
+{
+    if o.marks / 16 % 2 == 1 {
+        return write_turned_away(out, event, o);
     }
+    write_answered(out, event, o)
 }
 
-// The fields of an event's line.
-fn cells_of(event: u32, line: Line) -> [Cell; 6]
-    ensures { λ r. ⌜ r ≡ sixCells (cellsOf event line) ⌝ }
+// ---- lengths
+// How long the tried rung or `-` is.
+fn tried_length(o: Outcome) -> usize
+    ensures { λ r. ⌜ (r ≡ length (cellBytes (triedBy o))) × (r ≤ 10) ⌝ }
 {
-    match line {
-        Line::Answered(choice, tried, ofdm, ended, begun) => {
-            let tried = tried_cell(tried);
-            let ofdm = flag_cell(ofdm);
-            let ended = flag_cell(ended);
-            let begun = flag_cell(begun);
-            [
-                Cell::Number(event),
-                Cell::Number(choice.0),
-                tried,
-                ofdm,
-                ended,
-                begun,
-            ]
-        }
-        Line::Refused(why) => [
-            Cell::Number(event),
-            Cell::Word,
-            Cell::Number(why.number()),
-            Cell::Dash,
-            Cell::Dash,
-            Cell::Dash,
-        ],
+    if o.marks / 8 % 2 == 1 {
+        return digits_of(o.tried);
     }
+    1
 }
 
-// How many fields a line has.
-fn cell_count(line: Line) -> usize
-    ensures { λ r. ⌜ (r ≡ cellCount line) × (r ≤ 6) ⌝ }
+// How long the line of `refused` and a number is.
+pub(crate) fn refused_length(n: u32) -> usize
+    ensures { λ r. ⌜ (r ≡ length (rowOf (Word ∷ Number n ∷ []))) × (r ≤ 19) ⌝ }
 {
-    match line {
-        Line::Answered(_, _, _, _, _) => 6,
-        Line::Refused(_) => 3,
+    9 + digits_of(n)
+}
+
+// How long an event's line is.
+pub(crate) fn line_length(event: u32, o: Outcome) -> usize
+    ensures { λ r. ⌜ (r ≡ length (rowOf (cellsBy event o))) × (r ≤ 39) ⌝ }
+{
+    let head = digits_of(event) + 1;
+    if o.marks / 16 % 2 == 1 {
+        return head + refused_length(o.number);
     }
-}
-
-// An event's line at the start of the slice. Returns how many bytes it took.
-pub(crate) fn write_line(out: &mut [u8], event: u32, line: Line) -> usize
-    requires { ⌜ 66 ≤ length (now out) ⌝ }
-    ensures { λ r. ⌜ (r ≡ length (lineBytes event line)) × (r ≤ 66) ⌝ }
-    ensures { λ r. ⌜ now (out .exit) ≡ over (lineBytes event line) (now (out .entry)) ⌝ }
-{
-    let cells = cells_of(event, line);
-    let n = cell_count(line);
-    write_row(out, cells, n)
-}
-
-// The fields of the line that the program prints of a refused file: two of the six.
-fn refused_cells(why: Refusal) -> [Cell; 6]
-    ensures { λ r. ⌜ r ≡ sixCells (refusedCells why) ⌝ }
-{
-    [
-        Cell::Word,
-        Cell::Number(why.number()),
-        Cell::Dash,
-        Cell::Dash,
-        Cell::Dash,
-        Cell::Dash,
-    ]
-}
-
-// That line at the start of the slice. Returns how many bytes it took.
-pub(crate) fn write_refused(out: &mut [u8], why: Refusal) -> usize
-    requires { ⌜ 66 ≤ length (now out) ⌝ }
-    ensures { λ r. ⌜ (r ≡ length (refusedBytes why)) × (r ≤ 66) ⌝ }
-    ensures { λ r. ⌜ now (out .exit) ≡ over (refusedBytes why) (now (out .entry)) ⌝ }
-{
-    let cells = refused_cells(why);
-    write_row(out, cells, 2)
+    head + digits_of(o.number) + tried_length(o) + 8
 }

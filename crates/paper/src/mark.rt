@@ -1,72 +1,94 @@
-// Marking: one answer byte an event, held against the choice after that event.
+// Marking: one answer byte an event, held against the choice of that event's outcome.
 ghost use mathlib.Core.Path.{_≡_};
 ghost use mathlib.Core.Bool.{cond};
 ghost use Prim.Native.Nat.{_<_, _≤_};
 ghost use lib.Dec.{eqb};
 ghost use lib.ListN.{length};
-ghost use Rattle.paper.specs.File.{eventCount};
-ghost use Rattle.paper.specs.Sheet.{scored, scoreOf, markAnswer};
-use crate::event::answer_event;
-use crate::file::air;
-use crate::file::event_count;
-use crate::reader::read_body;
-use crate::reader::read_end;
-use crate::start::fresh_for;
+ghost use Rattle.question.specs.File.{eventCount};
+ghost use Rattle.paper.specs.Sheet.{scoreOf, markAnswer};
+ghost use Rattle.paper.specs.bridges.Outcomes.{Logged, scoredOutcome};
+use crate::outcome::Outcome;
+use crate::outcome::outcome_at;
+use crate::run::run;
 use crate::types::Marked;
 use crate::types::Score;
-use crate::verdict::file_verdict;
-use ladder::types::Rung;
 use limits::refusal::Refusal;
 use limits::refusal::Verdict;
-use rate::types::Answer;
+use question::file::event_count;
+use question::verdict::file_verdict;
 
 // 1 for an answer that is the choice, else 0.
-fn point(x: u8, choice: Rung) -> u32
-    ensures { λ r. ⌜ (r ≡ cond (eqb x (choice .0)) 1 0) × (r ≤ 1) ⌝ }
+fn point(x: u8, choice: u32) -> u32
+    ensures { λ r. ⌜ (r ≡ cond (eqb x choice) 1 0) × (r ≤ 1) ⌝ }
 {
-    if x as u32 == choice.0 { 1 } else { 0 }
+    if x as u32 == choice { 1 } else { 0 }
 }
 
 // The score with one answer more; a refused event does not count.
-fn score(m: Score, a: Answer, x: u8) -> Score
+fn score(m: Score, o: Outcome, x: u8) -> Score
     requires { ⌜ (m .right < 4294967295) × (m .counted < 4294967295) ⌝ }
-    ensures { λ r. ⌜ r ≡ scored m a x ⌝ }
+    ensures { λ r. ⌜ r ≡ scoredOutcome m o x ⌝ }
 {
-    let verdict = a.verdict;
-    match verdict {
-        Verdict::Accepted => {
-            let k = a.controller;
-            let choice = k.choice();
-            Score {
-                right: m.right + point(x, choice),
-                counted: m.counted + 1,
-            }
-        }
-        Verdict::Refused(_) => m,
+    if o.marks / 16 % 2 == 1 {
+        return m;
+    }
+    Score {
+        right: m.right + point(x, o.number),
+        counted: m.counted + 1,
     }
 }
 
-// The score of as many answers as the file has events.
-fn score_all(file: &[u8], answers: &[u8]) -> Score
+// The score of as many answers as the file has events, which were run.
+fn score_all(file: &[u8], log: &[u32], answers: &[u8]) -> Score
+    requires { ⌜ Logged (now file) (now log) ⌝ }
     requires { ⌜ length (now answers) ≡ eventCount (now file) ⌝ }
     ensures { λ r. ⌜ r ≡ scoreOf (now (file .entry)) (now (answers .entry)) ⌝ }
 {
-    let mut k = fresh_for(air(file));
     let mut m = Score {
         right: 0,
         counted: 0,
     };
-    let mut i: u32 = 0;
-    while !read_end(file, i) {
-        let a = answer_event(k, read_body(file, i));
+    for i in 0..event_count(file) {
         let at = i as usize;
-        let scored = score(m, a, answers[at]);
+        let o = outcome_at(log, 3 * at);
+        let scored = score(m, o, answers[at]);
         m = scored;
-        let next = a.controller;
-        k = next;
-        i += 1;
     }
     m
+}
+
+// The same of a file of few events, which are still to be run: a short array is sooner made.
+fn short_score(file: &[u8], answers: &[u8]) -> Score
+    requires { ⌜ eventCount (now file) ≤ 50 ⌝ }
+    requires { ⌜ length (now answers) ≡ eventCount (now file) ⌝ }
+    ensures { λ r. ⌜ r ≡ scoreOf (now (file .entry)) (now (answers .entry)) ⌝ }
+{
+    let mut log = [0u32; 150];
+    run(file, &mut log);
+    score_all(file, &log, answers)
+}
+
+// The same of a file of as many events as there may be.
+fn long_score(file: &[u8], answers: &[u8]) -> Score
+    requires { ⌜ eventCount (now file) ≤ 1000 ⌝ }
+    requires { ⌜ length (now answers) ≡ eventCount (now file) ⌝ }
+    ensures { λ r. ⌜ r ≡ scoreOf (now (file .entry)) (now (answers .entry)) ⌝ }
+{
+    let mut log = [0u32; 3000];
+    run(file, &mut log);
+    score_all(file, &log, answers)
+}
+
+// The same of an accepted file.
+fn run_score(file: &[u8], answers: &[u8]) -> Score
+    requires { ⌜ eventCount (now file) ≤ 1000 ⌝ }
+    requires { ⌜ length (now answers) ≡ eventCount (now file) ⌝ }
+    ensures { λ r. ⌜ r ≡ scoreOf (now (file .entry)) (now (answers .entry)) ⌝ }
+{
+    if answers.len() <= 50 {
+        return short_score(file, answers);
+    }
+    long_score(file, answers)
 }
 
 // How many answers are right, and how many count. Refused: 10, 11, 12, 14.
@@ -77,7 +99,7 @@ pub fn mark(question: &[u8], answers: &[u8]) -> Marked
     match verdict {
         Verdict::Accepted => {
             if answers.len() == event_count(question) as usize {
-                Marked::Scored(score_all(question, answers))
+                Marked::Scored(run_score(question, answers))
             } else {
                 Marked::Refused(Refusal::AnswerCount)
             }

@@ -4,26 +4,28 @@ ghost use mathlib.Core.Bool.{true, false, _||_};
 ghost use mathlib.Core.List.{[]};
 ghost use lib.Dec.{eqb};
 ghost use lib.ListN.{length};
+ghost use Rattle.ladder.specs.declared.types.Table.{Table};
 ghost use Rattle.ladder.specs.Tables.{blankTable};
 ghost use Rattle.account.specs.State.{freshState};
 ghost use Rattle.rate.specs.Calls.{step};
-ghost use Rattle.play.specs.Held.{rowsOf, frontOf, held, playing, movedOf};
-ghost use Rattle.play.specs.Pass.{Kept};
-ghost use Rattle.paper.specs.Body.{kind, callOf};
-use crate::bytes::byte_at;
-use crate::bytes::f64_of;
-use crate::bytes::past;
-use crate::bytes::reading_of;
-use crate::bytes::u32_of;
-use crate::event::families_event;
-use crate::event::prices_event;
+ghost use Rattle.steps.specs.bridges.Held.{Lent, Sized, laid, held};
+ghost use Rattle.rate.specs.bridges.Playing.{playing, movedOf};
+ghost use Rattle.steps.specs.bridges.Pass.{Kept};
+ghost use Rattle.question.specs.Body.{kind, callOf};
 use crate::frames::Played;
 use crate::frames::frames_event;
+use account::types::Core;
 use account::types::Prices;
-use ladder::types::Table;
-use play::types::Core;
-use play::types::Moved;
+use ladder::types::Air;
+use question::bytes::byte_at;
+use question::bytes::f64_of;
+use question::bytes::past;
+use question::bytes::reading_of;
+use question::bytes::u32_of;
+use question::event::families_event;
+use question::event::prices_event;
 use rate::types::Answer;
+use rate::types::Moved;
 use rate::types::RateController;
 
 // ---- prices
@@ -66,9 +68,9 @@ pub(crate) fn prices_after(p: Prices, body: &[u8]) -> Prices
 }
 
 // What an event of families or prices leaves beside the prices, and returns.
-fn price_event(t: Table, p: Prices, c: Core, body: &[u8]) -> Moved
+fn price_event(p: Prices, c: Core, body: &[u8]) -> Moved
     requires { ⌜ (eqb (kind (now body)) 5 || eqb (kind (now body)) 6) ≡ true ⌝ }
-    ensures { λ m. ⌜ m ≡ movedOf (step (playing t p [] [] [] c) (callOf (now (body .entry)))) ⌝ }
+    ensures { λ m. ⌜ ((k : Table) → m ≡ movedOf (step (playing k p [] [] [] c) (callOf (now (body .entry))))) ⌝ }
 {
     let a = price_answer(p, body);
     let verdict = a.verdict;
@@ -83,47 +85,46 @@ fn price_event(t: Table, p: Prices, c: Core, body: &[u8]) -> Moved
 // ---- the calls in place
 // An event that moves no array.
 fn light_event(
-    t: Table,
+    t: Air,
     p: Prices,
-    rows: &[f64],
-    front: &[u32],
+    reals: &[f64],
+    wholes: &[u32],
     books: &[f64],
     c: Core,
     body: &[u8],
 ) -> Moved
-    requires { ⌜ now rows ≡ rowsOf t ⌝ }
-    requires { ⌜ now front ≡ frontOf t ⌝ }
+    requires { ⌜ Lent (now reals) (now wholes) ⌝ }
     requires { ⌜ length (now books) ≡ 96 ⌝ }
     requires { ⌜ eqb (kind (now body)) 1 ≡ false ⌝ }
-    ensures { λ m. ⌜ m ≡ movedOf (step (playing t p (now (books .entry)) [] [] c) (callOf (now (body .entry)))) ⌝ }
+    ensures { λ m. ⌜ m ≡ movedOf (step (playing (laid t (now (reals .entry)) (now (wholes .entry))) p (now (books .entry)) [] [] c) (callOf (now (body .entry)))) ⌝ }
 {
     let kind = byte_at(body, 0);
     if kind == 2 {
         let share = reading_of(past(body, 1));
         let snr_db = f64_of(past(body, 10));
-        return play::calls::observe_echo(t, p, rows, front, books, c, share, snr_db);
+        return rate::inplace::observe_echo(t, p, reals, wholes, books, c, share, snr_db);
     }
     if kind == 3 {
         let steps = u32_of(past(body, 1));
-        return play::calls::silent(t, p, rows, front, c, steps);
+        return rate::inplace::silent(t, p, reals, wholes, c, steps);
     }
     if kind == 4 {
         let snr = reading_of(past(body, 1));
-        return play::calls::observe_snr(t, p, c, snr);
+        return rate::inplace::observe_snr(c, snr);
     }
     if is_pricing(body) {
-        return price_event(t, p, c, body);
+        return price_event(p, c, body);
     }
     let snr_db = f64_of(past(body, 1));
-    play::calls::seed(t, p, rows, front, books, c, snr_db)
+    rate::inplace::seed(t, p, reals, wholes, books, c, snr_db)
 }
 
 // The call that a body stands for, made: what it leaves and returns.
 pub(crate) fn play_event(
-    t: Table,
+    t: Air,
     p: Prices,
-    rows: &[f64],
-    front: &[u32],
+    reals: &[f64],
+    wholes: &[u32],
     fades: &mut [f64],
     books: &mut [f64],
     since: &mut [f64],
@@ -132,20 +133,29 @@ pub(crate) fn play_event(
     last: f64,
     body: &[u8],
 ) -> Played
-    requires { ⌜ now rows ≡ rowsOf t ⌝ }
-    requires { ⌜ now front ≡ frontOf t ⌝ }
+    requires { ⌜ Lent (now reals) (now wholes) ⌝ }
     requires { ⌜ length (now fades) ≡ 96 ⌝ }
-    requires { ⌜ length (now books) ≡ 96 ⌝ }
-    requires { ⌜ length (now since) ≡ 32 ⌝ }
-    requires { ⌜ length (now wait) ≡ 32 ⌝ }
-    requires { ⌜ Kept t last (now fades) ⌝ }
-    ensures { λ r. ⌜ r .moved ≡ movedOf (step (playing t p (now (books .entry)) (now (since .entry)) (now (wait .entry)) c) (callOf (now (body .entry)))) ⌝ }
-    ensures { λ r. ⌜ held (now (books .exit)) (now (since .exit)) (now (wait .exit)) (r .moved .core) ≡ step (playing t p (now (books .entry)) (now (since .entry)) (now (wait .entry)) c) (callOf (now (body .entry))) .controller .state ⌝ }
-    ensures { λ r. ⌜ Kept t (r .faded) (now (fades .exit)) ⌝ }
+    requires { ⌜ Sized (now books) (now since) (now wait) ⌝ }
+    requires { ⌜ Kept (laid t (now reals) (now wholes)) last (now fades) ⌝ }
+    ensures { λ r. ⌜ r .moved ≡ movedOf (step (playing (laid t (now (reals .entry)) (now (wholes .entry))) p (now (books .entry)) (now (since .entry)) (now (wait .entry)) c) (callOf (now (body .entry)))) ⌝ }
+    ensures { λ r. ⌜ held (now (books .exit)) (now (since .exit)) (now (wait .exit)) (r .moved .core) ≡ step (playing (laid t (now (reals .entry)) (now (wholes .entry))) p (now (books .entry)) (now (since .entry)) (now (wait .entry)) c) (callOf (now (body .entry))) .controller .state ⌝ }
+    ensures { λ r. ⌜ Kept (laid t (now (reals .entry)) (now (wholes .entry))) (r .faded) (now (fades .exit)) ⌝ }
 {
     if byte_at(body, 0) == 1 {
-        return frames_event(t, p, rows, front, fades, books, since, wait, c, last, body);
+        return frames_event(
+            t,
+            p,
+            reals,
+            wholes,
+            fades,
+            books,
+            since,
+            wait,
+            c,
+            last,
+            body,
+        );
     }
-    let moved = light_event(t, p, rows, front, books, c, body);
+    let moved = light_event(t, p, reals, wholes, books, c, body);
     Played { moved, faded: last }
 }

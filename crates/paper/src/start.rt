@@ -1,12 +1,12 @@
-// What a question file starts with: the table of its air, with the air's settings, and a fresh controller.
+// What a question file starts with: the table of its air, with the air's settings.
 ghost use mathlib.Core.Path.{_≡_};
 ghost use mathlib.Core.Bool.{true, false};
 ghost use Rattle.ladder.specs.Tables.{tableOf, forAir};
 ghost use Rattle.ladder.specs.Airs.{wideAir, narrowAir};
 ghost use Rattle.paper.specs.Sheet.{freshFor};
 use ladder::types::Table;
-use rate::types::RateController;
 
+// The wide air's table.
 fn start_wide() -> Table
     ensures { λ r. ⌜ r ≡ forAir (tableOf wideAir) true ⌝ }
 {
@@ -15,6 +15,7 @@ fn start_wide() -> Table
     ladder::table::for_air(t, true)
 }
 
+// The narrow air's table.
 fn start_narrow() -> Table
     ensures { λ r. ⌜ r ≡ forAir (tableOf narrowAir) false ⌝ }
 {
@@ -31,11 +32,4 @@ pub(crate) fn table_of(air: u32) -> Table
         return start_wide();
     }
     start_narrow()
-}
-
-// A fresh controller of an air.
-pub(crate) fn fresh_for(air: u32) -> RateController
-    ensures { λ r. ⌜ r ≡ freshFor air ⌝ }
-{
-    rate::make::fresh(table_of(air))
 }

@@ -9,12 +9,12 @@ use borrow.Author.Tests.{le-leb, lt-leb}
 use Rattle.limits.specs.Values.{okDb, okLength, okBurst}
 use Rattle.limits.specs.declared.refusal.Refusal.the-variants.{OutsideLimits, TooManyBursts}
 use Rattle.limits.specs.declared.refusal.Verdict.the-variants.{Refused}
-use Rattle.ladder.specs.declared.types.Reading.{Reading}
+use Rattle.limits.specs.declared.reading.Reading.{Reading}
 use Rattle.ladder.specs.Lists.{every}
-use Rattle.ladder.specs.Types.{okSnr}
+use Rattle.limits.specs.Readings.{okSnr}
 use Rattle.account.specs.declared.types.Tariff.{Tariff}
 use Rattle.account.specs.declared.types.State.{State}
-use Rattle.steps.specs.Echo.{observeEcho, silent, seed, observeSnr}
+use Rattle.rules.specs.Echo.{observeEcho, silent, seed, observeSnr}
 use Rattle.rate.specs.Calls.{RateController, Echo, Silence, Snr, Seed, Price, okEcho, verdict, accepted, done, repriced, refused, tariffOf, step}
 
 -- `ok` is what the test in the code answered, `s` the state that the code made

@@ -10,17 +10,17 @@ use lib.ListN.{length, take}
 use borrow.Author.Tests.{le-leb, lt-leb, ne-eqb}
 use Rattle.limits.specs.declared.refusal.Verdict.{Verdict}
 use Rattle.limits.specs.declared.refusal.Verdict.the-variants.{Accepted, Refused}
-use Rattle.ladder.specs.declared.types.Reading.{Reading}
-use Rattle.steps.specs.declared.types.Frame.{Frame}
-use Rattle.steps.specs.declared.types.Decided.{Decided}
-use Rattle.steps.specs.Tries.{decide}
-use Rattle.steps.specs.Transmission.{inside, observeFrames}
-use Rattle.steps.specs.Tally.{bookAll}
-use Rattle.steps.specs.Check.{checkAll}
-use Rattle.steps.proofs.FirstBad.{finds-first-bad, counts-frames}
-use Rattle.steps.proofs.Tally.{pass-inside}
+use Rattle.limits.specs.declared.reading.Reading.{Reading}
+use Rattle.rules.specs.declared.types.Frame.{Frame}
+use Rattle.rules.specs.Tries.{Decided}
+use Rattle.rules.specs.Tries.{decide}
+use Rattle.rules.specs.Transmission.{inside, observeFrames}
+use Rattle.rules.specs.bridges.Tally.{bookAll}
+use Rattle.rules.specs.bridges.Check.{checkAll}
+use Rattle.rules.proofs.FirstBad.{finds-first-bad, counts-frames}
+use Rattle.steps.proofs.Passed.{tally-decided}
 use Rattle.rate.specs.Calls.{RateController, Frames, done, verdict, accepted, answered, step}
-use Rattle.rate.specs.Frames.{smoothed, beginPass, beginChecks, framesVerdict, judgedPass, transmitted, acceptFrames, answerFrames, finishFrames, observedFrames, heldFrames}
+use Rattle.rate.specs.bridges.Frames.{smoothed, beginPass, beginChecks, framesVerdict, transmitted, acceptFrames, answerFrames, finishFrames, observedFrames, heldFrames}
 
 -- a count up to 257 tells whether there are over 256
 over-256 : (n : ℕ) → leb (min 257 n) 256 ≡ leb n 256
@@ -36,8 +36,8 @@ module _ (k : RateController) (fs : List Frame) (snr : Reading) where
   same-verdict = rw (counts-frames (k .table) fs, finds-first-bad (k .table) fs, over-256 (length fs)) refl
 
   same-decided : transmitted k (bookAll (beginPass k snr) fs) snr ≡ decide (k .table) (k .prices) (inside (k .table) (k .prices) (k .state) fs snr)
-  unfolding smoothed beginPass judgedPass transmitted
-  same-decided = ap (decide (k .table) (k .prices)) (pass-inside (k .table) (k .prices) (k .state) fs snr (bookAll (beginPass k snr) fs) (judgedPass k (bookAll (beginPass k snr) fs) snr) refl refl)
+  unfolding smoothed beginPass transmitted
+  same-decided = tally-decided (k .table) (k .prices) (k .state) fs snr
 
 same-accepted : (k : RateController) (fs : List Frame) (snr : Reading) → acceptFrames k (checkAll (beginChecks k) fs .count) (bookAll (beginPass k snr) fs) snr ≡ accepted k (Frames fs snr)
 unfolding acceptFrames smoothed beginChecks accepted observeFrames

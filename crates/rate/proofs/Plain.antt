@@ -2,11 +2,11 @@
 use mathlib.Core.Path.{refl}
 use mathlib.Core.List.{List}
 use Rattle.walk.proofs.Fold.{Plainly, of-struct, of-enum}
-use Rattle.ladder.specs.declared.types.Reading.{Reading}
-use Rattle.steps.specs.declared.types.Frame.{Frame}
+use Rattle.limits.specs.declared.reading.Reading.{Reading}
+use Rattle.rules.specs.declared.types.Frame.{Frame}
 use Rattle.rate.specs.Calls.{RateController, Answer, Frames, step}
-use Rattle.ladder.proofs.types.Reading as Re
-use Rattle.ladder.proofs.types.Reading.Laws as Re′
+use Rattle.limits.proofs.reading.Reading as Re
+use Rattle.limits.proofs.reading.Reading.Laws as Re′
 use Rattle.rate.proofs.types.RateController as Co
 use Rattle.rate.proofs.types.RateController.Laws as Co′
 use Rattle.rate.proofs.types.Answer as An

@@ -10,20 +10,20 @@ use Rattle.limits.specs.Refusals.{unless, orElse}
 use Rattle.limits.specs.declared.refusal.Refusal.the-variants.{TooManyFrames, OutsideLimits, TooManyBursts}
 use Rattle.limits.specs.declared.refusal.Verdict.{Verdict}
 use Rattle.limits.specs.declared.refusal.Verdict.the-variants.{Accepted, Refused}
-use Rattle.ladder.specs.declared.types.Reading.{Reading}
-use Rattle.ladder.specs.declared.types.Reading.the-variants.{Missing, Value}
+use Rattle.limits.specs.declared.reading.Reading.{Reading}
+use Rattle.limits.specs.declared.reading.Reading.the-variants.{Missing, Value}
 use Rattle.ladder.specs.declared.types.Table.{Table}
 use Rattle.ladder.specs.Lists.{every, filled}
-use Rattle.ladder.specs.Types.{okSnr}
+use Rattle.limits.specs.Readings.{okSnr}
 use Rattle.account.specs.declared.types.Families.the-variants.{Set}
 use Rattle.account.specs.declared.types.Tariff.{Tariff}
 use Rattle.account.specs.declared.types.Prices.{Prices}
 use Rattle.account.specs.declared.types.State.{State}
 use Rattle.account.specs.State.{runs, freshState, unpriced}
-use Rattle.steps.specs.declared.types.Frame.{Frame}
-use Rattle.steps.specs.Echo.{observeEcho, silent, seed, observeSnr}
-use Rattle.steps.specs.Transmission.{observeFrames}
-use Rattle.steps.specs.Check.{firstBad}
+use Rattle.rules.specs.declared.types.Frame.{Frame}
+use Rattle.rules.specs.Echo.{observeEcho, silent, seed, observeSnr}
+use Rattle.rules.specs.Transmission.{observeFrames}
+use Rattle.rules.specs.Check.{firstBad}
 pub use Rattle.rate.specs.declared.types.RateController.{RateController}
 pub use Rattle.rate.specs.declared.types.Answer.{Answer}
 
@@ -73,7 +73,7 @@ abbrev pub done : RateController → State → Bool → Answer
 done k s begun = record {
   controller = withState k s;
   verdict = Accepted;
-  ended = runs (k .state .trying) && (begun || not (runs (s .trying)));
+  ended = runs (k .state .core .trying) && (begun || not (runs (s .core .trying)));
   begun = begun;
 }
 

@@ -1,3 +1,3 @@
 pub mod Calls
 pub mod Reads
-pub mod Frames
+pub mod bridges

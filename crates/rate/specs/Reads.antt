@@ -7,15 +7,15 @@ use Rattle.limits.specs.Values.{okDb}
 use Rattle.limits.specs.declared.refusal.Refusal.the-variants.{UnknownRung, OutsideLimits}
 use Rattle.ladder.specs.declared.types.Rung.{Rung}
 use Rattle.ladder.specs.declared.types.Front.{Front}
-use Rattle.ladder.specs.declared.types.Reading.{Reading}
-use Rattle.ladder.specs.declared.types.Reading.the-variants.{Missing, Value}
+use Rattle.limits.specs.declared.reading.Reading.{Reading}
+use Rattle.limits.specs.declared.reading.Reading.the-variants.{Missing, Value}
 use Rattle.ladder.specs.Types.{rung, row, inTable, rungAt}
 use Rattle.account.specs.declared.types.Account.{Account}
 use Rattle.account.specs.declared.types.Trying.{Trying}
 use Rattle.account.specs.declared.types.Trying.the-variants.{Nothing, Running}
 use Rattle.account.specs.State.{noAccount, account, choice}
 use Rattle.account.specs.Price.{estimate, lossless, value}
-use Rattle.steps.specs.Echo.{firstPlace}
+use Rattle.rules.specs.Echo.{firstPlace}
 use Rattle.ladder.specs.Tables.{Columns, tabled, forAir}
 use Rattle.rate.specs.Calls.{RateController, freshController}
 pub use Rattle.rate.specs.declared.types.Made.{Made}
@@ -48,7 +48,7 @@ thresholdOf k r = cond (inTable (k .table) r) (Value (row (k .table) r .threshol
 
 -- the usable rungs
 abbrev pub modesOf : RateController → Front
-modesOf k = record { rungs = k .table .front; count = k .table .places }
+modesOf k = record { rungs = k .table .front; count = k .table .air .places }
 
 -- the choice, and the rung to use: the one being tried, else the choice
 abbrev pub choiceOf : RateController → Rung
@@ -59,14 +59,14 @@ probingIn Nothing = probe.Nothing
 probingIn (Running r calls frames) = probe.At r
 
 abbrev pub probingOf : RateController → Probing
-probingOf k = probingIn (k .state .trying)
+probingOf k = probingIn (k .state .core .trying)
 
 abbrev pub recommended : Rung → Trying → Rung
 recommended here Nothing = here
 recommended here (Running r calls frames) = r
 
 abbrev pub recommendOf : RateController → Rung
-recommendOf k = recommended (choiceOf k) (k .state .trying)
+recommendOf k = recommended (choiceOf k) (k .state .core .trying)
 
 -- `first_mode`, whose SNR is held to its limits (8)
 unfoldable pub firstMode : RateController → Float → First

@@ -3,8 +3,10 @@ ghost use mathlib.Core.Path.{_≡_};
 ghost use mathlib.Core.Bool.{not, _&&_, _||_};
 ghost use Rattle.limits.specs.declared.refusal.Verdict.the-variants.{Refused};
 ghost use Rattle.account.specs.State.{runs};
-ghost use Rattle.rate.specs.Calls.{done, repriced, refused};
+ghost use Rattle.rate.specs.Calls.{repriced, refused};
+ghost use Rattle.rate.specs.bridges.Playing.{answerBy};
 use crate::types::Answer;
+use crate::types::Moved;
 use crate::types::RateController;
 use account::types::Prices;
 use account::types::State;
@@ -16,37 +18,45 @@ use limits::refusal::Verdict;
 pub fn was_ended(before: Trying, after: Trying, begun: bool) -> bool
     ensures { λ b. ⌜ b ≡ (runs before && (begun || not (runs after))) ⌝ }
 {
-    if account::state::is_running(before) {
+    if account::core::is_running(before) {
         if begun {
             true
         } else {
-            !account::state::is_running(after)
+            !account::core::is_running(after)
         }
     } else {
         false
     }
 }
 
-// Accepted: the state is moved, and the marks say what became of the try.
-pub fn done(k: RateController, s: State, begun: bool) -> Answer
-    ensures { λ r. ⌜ r ≡ done k s begun ⌝ }
+// What a call in place that moves no array left and returned, put together with the rest of the controller.
+pub(crate) fn answer(k: RateController, m: Moved) -> Answer
+    ensures { λ r. ⌜ r ≡ answerBy k m ⌝ }
 {
     let table = k.table;
     let prices = k.prices;
-    let old = k.state;
-    let before = old.trying;
-    let after = s.trying;
-    let ended = was_ended(before, after, begun);
+    let s = k.state;
+    let accounts = s.accounts;
+    let since = s.since;
+    let wait = s.wait;
+    let core = m.core;
+    let verdict = m.verdict;
+    let state = State {
+        accounts,
+        since,
+        wait,
+        core,
+    };
     let controller = RateController {
         table,
         prices,
-        state: s,
+        state,
     };
     Answer {
         controller,
-        verdict: Verdict::Accepted,
-        ended,
-        begun,
+        verdict,
+        ended: m.ended,
+        begun: m.begun,
     }
 }
 

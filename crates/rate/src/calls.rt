@@ -1,40 +1,25 @@
 // The calls that change a controller. Each promises `step` of specs/Calls.antt, which the waiting theorem speaks of.
 ghost use mathlib.Core.Path.{_≡_};
-ghost use Rattle.rate.specs.Calls.{step, Snr, Silence, Seed, Echo, Family, okEcho};
+ghost use Rattle.rate.specs.Calls.{step, Snr, Silence, Seed, Echo, Family};
+use crate::answers::answer;
 use crate::types::Answer;
 use crate::types::RateController;
 use account::types::Families;
 use account::types::Prices;
-use ladder::types::Reading;
-use limits::refusal::Refusal;
+use limits::reading::Reading;
+use steps::read::books_of;
+use steps::read::reals_of;
+use steps::read::wholes_of;
 
-// Whether an echo reading is within its limits; of a missing share the SNR is not looked at.
-pub fn ok_echo(share: Reading, snr_db: f64) -> bool
-    ensures { λ b. ⌜ b ≡ okEcho share «snr_db» ⌝ }
-{
-    match share {
-        Reading::Missing => true,
-        Reading::Value(x) => {
-            if limits::values::ok_share(x) {
-                limits::values::ok_db(snr_db)
-            } else {
-                false
-            }
-        }
-    }
-}
-
+// A controller is laid out as slices, the call is made in place, and what it moved is put together again.
 impl RateController {
     // Takes an SNR reading and nothing else. Refused: 8.
     pub fn observe_snr(self, snr: Reading) -> Answer
         ensures { λ r. ⌜ r ≡ step self (Snr snr) ⌝ }
     {
-        if ladder::read::ok_snr(snr) {
-            let s = self.state;
-            crate::answers::done(self, steps::echo::observe_snr(s, snr), false)
-        } else {
-            crate::answers::refused(self, Refusal::OutsideLimits)
-        }
+        let s = self.state;
+        let c = s.core;
+        answer(self, crate::inplace::observe_snr(c, snr))
     }
 
     // A burst's counts: only its SNR is read. Refused: 8.
@@ -49,40 +34,48 @@ impl RateController {
         ensures { λ r. ⌜ r ≡ step self (Silence steps) ⌝ }
     {
         let t = self.table;
+        let p = self.prices;
         let s = self.state;
-        crate::answers::done(self, steps::echo::silent(t, s, steps), false)
+        let air = t.air;
+        let c = s.core;
+        let reals = reals_of(t);
+        let wholes = wholes_of(t);
+        let m = crate::inplace::silent(air, p, &reals, &wholes, c, steps);
+        answer(self, m)
     }
 
     // Starts from the connect frame's reading, before any SNR is known. Refused: 8.
     pub fn seed(self, snr_db: f64) -> Answer
         ensures { λ r. ⌜ r ≡ step self (Seed «snr_db») ⌝ }
     {
-        if limits::values::ok_db(snr_db) {
-            let t = self.table;
-            let p = self.prices;
-            let s = self.state;
-            crate::answers::done(self, steps::echo::seed(t, p, s, snr_db), false)
-        } else {
-            crate::answers::refused(self, Refusal::OutsideLimits)
-        }
+        let t = self.table;
+        let p = self.prices;
+        let s = self.state;
+        let air = t.air;
+        let c = s.core;
+        let accounts = s.accounts;
+        let reals = reals_of(t);
+        let wholes = wholes_of(t);
+        let books = books_of(accounts);
+        let m = crate::inplace::seed(air, p, &reals, &wholes, &books, c, snr_db);
+        answer(self, m)
     }
 
     // A frame's echo reading: a try of a rung that it rules out ends, and so does a choice. Refused: 8.
     pub fn observe_echo(self, share: Reading, snr_db: f64) -> Answer
         ensures { λ r. ⌜ r ≡ step self (Echo share «snr_db») ⌝ }
     {
-        if ok_echo(share, snr_db) {
-            let t = self.table;
-            let p = self.prices;
-            let s = self.state;
-            crate::answers::done(
-                self,
-                steps::echo::observe_echo(t, p, s, share, snr_db),
-                false,
-            )
-        } else {
-            crate::answers::refused(self, Refusal::OutsideLimits)
-        }
+        let t = self.table;
+        let p = self.prices;
+        let s = self.state;
+        let air = t.air;
+        let c = s.core;
+        let accounts = s.accounts;
+        let reals = reals_of(t);
+        let wholes = wholes_of(t);
+        let books = books_of(accounts);
+        let m = crate::inplace::observe_echo(air, p, &reals, &wholes, &books, c, share, snr_db);
+        answer(self, m)
     }
 
     // The families that both stations' control frames go in now.

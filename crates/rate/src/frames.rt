@@ -1,40 +1,42 @@
 // `observe_frames`: two thin passes over the frames lent, one that checks them and one that books them, and one answer from what both found.
 ghost use mathlib.Core.Path.{_≡_};
+ghost use mathlib.Core.Bool.{false};
 ghost use Prim.Native.Nat.{_≤_};
 ghost use lib.ListN.{take};
 ghost use Rattle.limits.specs.Refusals.{unless};
+ghost use Rattle.limits.specs.Readings.{okSnr};
 ghost use Rattle.limits.specs.declared.refusal.Refusal.the-variants.{OutsideLimits};
-ghost use Rattle.ladder.specs.Types.{okSnr};
-ghost use Rattle.rate.specs.Calls.{step, Frames};
-ghost use Rattle.rate.specs.Frames.{smoothed, beginPass, beginChecks, framesVerdict, judgedPass, transmitted, acceptFrames, finishFrames, heldFrames};
+ghost use Rattle.steps.specs.bridges.Pass.{passOf};
+ghost use Rattle.rate.specs.Calls.{step, Frames, done};
+ghost use Rattle.rate.specs.bridges.Frames.{smoothed, beginPass, beginChecks, framesVerdict, transmitted, acceptFrames, finishFrames, heldFrames};
+use crate::answers::answer;
+use crate::answers::was_ended;
 use crate::types::Answer;
 use crate::types::RateController;
 use account::types::State;
-use ladder::types::Reading;
+use limits::reading::Reading;
 use limits::refusal::Refusal;
 use limits::refusal::Verdict;
-use steps::booking::Tally;
-use steps::check::Check;
-use steps::types::Decided;
-use steps::types::Frame;
+use rules::check::Check;
+use rules::pass::Tally;
+use rules::types::Frame;
+use steps::read::books_of;
+use steps::read::reals_of;
+use steps::read::wholes_of;
+use steps::types::Pass;
 
 // The longest list that is accepted.
 const MOST: u32 = 256;
-
-// The state with the SNR smoothed.
-fn smooth(k: RateController, snr: Reading) -> State
-    ensures { λ s. ⌜ s ≡ smoothed k snr ⌝ }
-{
-    let s = k.state;
-    steps::echo::observe_snr(s, snr)
-}
 
 // What the pass that books begins with.
 fn begin_pass(k: RateController, snr: Reading) -> Tally
     ensures { λ y. ⌜ y ≡ beginPass k snr ⌝ }
 {
     let t = k.table;
-    steps::booking::begin_tally(t, smooth(k, snr))
+    let s = k.state;
+    let accounts = s.accounts;
+    let c = s.core;
+    rules::pass::begin_tally(t, accounts, steps::echo::observe_snr(c, snr))
 }
 
 // What the pass that checks begins with.
@@ -42,14 +44,15 @@ fn begin_checks(k: RateController) -> Check
     ensures { λ v. ⌜ v ≡ beginChecks k ⌝ }
 {
     let t = k.table;
-    steps::check::begin_check(t)
+    let air = t.air;
+    rules::check::begin_check(air)
 }
 
 // An SNR reading. Refused: 8.
 fn snr_verdict(snr: Reading) -> Verdict
     ensures { λ z. ⌜ z ≡ unless (okSnr snr) OutsideLimits ⌝ }
 {
-    if ladder::read::ok_snr(snr) {
+    if limits::reading::ok_snr(snr) {
         Verdict::Accepted
     } else {
         Verdict::Refused(Refusal::OutsideLimits)
@@ -64,40 +67,94 @@ pub fn frames_verdict(v: Check, snr: Reading) -> Verdict
         return Verdict::Refused(Refusal::TooManyFrames);
     }
     let bad = v.verdict;
-    steps::check::or_else(bad, snr_verdict(snr))
+    limits::refusal::or_else(bad, snr_verdict(snr))
 }
 
-// The state after the pass, with the rungs sent judged.
-fn judge_pass(k: RateController, y: Tally, snr: Reading) -> State
-    ensures { λ s. ⌜ s ≡ judgedPass k y snr ⌝ }
+// What the pass gathered beside the accounts.
+fn pass_of(y: Tally) -> Pass
+    ensures { λ z. ⌜ z ≡ passOf y ⌝ }
+{
+    let offsets = y.offsets;
+    let marks = y.marks;
+    Pass {
+        sent: y.sent,
+        offsets,
+        air: y.air,
+        own: y.own,
+        marks,
+    }
+}
+
+// What a list that is not empty leaves and returns. The answer is made here, where its parts are: each call by value copies the controller.
+fn transmit(k: RateController, y: Tally, snr: Reading) -> Answer
+    ensures { λ r. ⌜ r ≡ done k (transmitted k y snr .state) (transmitted k y snr .begun) ⌝ }
 {
     let t = k.table;
     let p = k.prices;
-    let s = smooth(k, snr);
-    steps::judge::judge_sent(t, p, steps::booking::finish_booking(t, s, y), y.sent)
+    let s = k.state;
+    let old = s.core;
+    let before = old.trying;
+    let air = t.air;
+    let accounts = y.accounts;
+    let reals = reals_of(t);
+    let wholes = wholes_of(t);
+    let books = books_of(accounts);
+    let mut since = s.since;
+    let mut wait = s.wait;
+    let c = steps::echo::observe_snr(old, snr);
+    let pass = pass_of(y);
+    let d = steps::frames::transmit(
+        air,
+        p,
+        &reals,
+        &wholes,
+        &books,
+        &mut since,
+        &mut wait,
+        c,
+        pass,
+    );
+    let core = d.core;
+    let after = core.trying;
+    let ended = was_ended(before, after, d.begun);
+    let state = State {
+        accounts,
+        since,
+        wait,
+        core,
+    };
+    let controller = RateController {
+        table: t,
+        prices: p,
+        state,
+    };
+    Answer {
+        controller,
+        verdict: Verdict::Accepted,
+        ended,
+        begun: d.begun,
+    }
 }
 
-// What a list that is not empty leaves: a running try is counted, and `decide` has the last word.
-fn transmit(k: RateController, y: Tally, snr: Reading) -> Decided
-    ensures { λ d. ⌜ d ≡ transmitted k y snr ⌝ }
+// Of an empty list only the SNR is taken.
+fn take_snr(k: RateController, snr: Reading) -> Answer
+    ensures { λ r. ⌜ r ≡ done k (smoothed k snr) false ⌝ }
 {
-    let t = k.table;
-    let p = k.prices;
-    let s = judge_pass(k, y, snr);
-    let trying = s.trying;
-    steps::tries::decide(t, p, steps::tries::count_try(t, p, y.own, s, trying))
+    let s = k.state;
+    let old = s.core;
+    let before = old.trying;
+    let c = steps::echo::observe_snr(old, snr);
+    answer(k, crate::inplace::done(before, c, false))
 }
 
-// Accepted; of an empty list only the SNR is taken.
+// Accepted.
 fn accept_frames(k: RateController, n: u32, y: Tally, snr: Reading) -> Answer
     ensures { λ r. ⌜ r ≡ acceptFrames k n y snr ⌝ }
 {
     if n == 0 {
-        return crate::answers::done(k, smooth(k, snr), false);
+        return take_snr(k, snr);
     }
-    let d = transmit(k, y, snr);
-    let s = d.state;
-    crate::answers::done(k, s, d.begun)
+    transmit(k, y, snr)
 }
 
 // The answer, from what both passes found.
@@ -115,8 +172,8 @@ impl RateController {
     pub fn observe_frames(self, frames: &[Frame], snr: Reading) -> Answer
         ensures { λ r. ⌜ r ≡ step self (Frames (now (frames .entry)) snr) ⌝ }
     {
-        let v = steps::check::check_frames(begin_checks(self), frames);
-        let y = steps::booking::book_frames(begin_pass(self, snr), frames);
+        let v = rules::check::check_frames(begin_checks(self), frames);
+        let y = rules::pass::book_frames(begin_pass(self, snr), frames);
         finish_frames(self, v, y, snr)
     }
 }

@@ -5,8 +5,8 @@ ghost use Rattle.rate.specs.Calls.{freshController};
 ghost use Rattle.rate.specs.Reads.{made, forAirOf};
 use crate::types::Made;
 use crate::types::RateController;
-use ladder::types::Reading;
 use ladder::types::Table;
+use limits::reading::Reading;
 
 // A fresh controller of a table.
 pub fn fresh(t: Table) -> RateController

@@ -1,6 +1,6 @@
 // The calls that only read a controller.
 ghost use mathlib.Core.Path.{_≡_};
-ghost use Rattle.steps.specs.Echo.{refuses};
+ghost use Rattle.rules.specs.Echo.{refuses};
 ghost use Rattle.rate.specs.Reads.{valueOf, estimateOf, accountOf, losslessOf, thresholdOf, choiceOf, probingOf, recommendOf, firstMode, modesOf};
 use crate::types::First;
 use crate::types::Probing;
@@ -12,9 +12,12 @@ use account::types::Offsets;
 use account::types::Trying;
 use ladder::types::Front;
 use ladder::types::Place;
-use ladder::types::Reading;
 use ladder::types::Rung;
+use limits::reading::Reading;
 use limits::refusal::Refusal;
+use steps::read::books_of;
+use steps::read::reals_of;
+use steps::read::wholes_of;
 
 impl RateController {
     // The families last set.
@@ -31,7 +34,14 @@ impl RateController {
     {
         let t = self.table;
         let s = self.state;
-        steps::echo::refuses(t, s, mode)
+        let air = t.air;
+        if ladder::read::is_floor(air, mode) {
+            return false;
+        }
+        let c = s.core;
+        let reals = reals_of(t);
+        let wholes = wholes_of(t);
+        steps::echo::refuses_ofdm(air, &reals, &wholes, c)
     }
 
     // What the rungs are ranked by. Refused: 6.
@@ -41,8 +51,12 @@ impl RateController {
         let t = self.table;
         let p = self.prices;
         let s = self.state;
-        if ladder::read::in_table(t, mode) {
-            Rated::Of(account::price::value_of(t, p, s, mode))
+        let air = t.air;
+        let c = s.core;
+        if ladder::read::in_table(air, mode) {
+            let row = ladder::read::row_of(t, mode);
+            let a = account::state::account_of(s, mode);
+            Rated::Of(account::price::value_by(air, p, c, mode, row, a))
         } else {
             Rated::Refused(Refusal::UnknownRung)
         }
@@ -54,9 +68,12 @@ impl RateController {
     {
         let t = self.table;
         let s = self.state;
-        if ladder::read::in_table(t, mode) {
-            let snr = s.snr;
-            Rated::Of(account::price::estimate_at(t, s, mode, snr))
+        let air = t.air;
+        let c = s.core;
+        if ladder::read::in_table(air, mode) {
+            let row = ladder::read::row_of(t, mode);
+            let a = account::state::account_of(s, mode);
+            Rated::Of(account::price::estimate_by(air, c, mode, row, a))
         } else {
             Rated::Refused(Refusal::UnknownRung)
         }
@@ -67,8 +84,9 @@ impl RateController {
         ensures { λ r. ⌜ r ≡ losslessOf self (mode .0) ⌝ }
     {
         let t = self.table;
-        if ladder::read::in_table(t, mode) {
-            account::price::lossless_of(t, mode)
+        let air = t.air;
+        if ladder::read::in_table(air, mode) {
+            account::price::lossless_of(ladder::read::row_of(t, mode))
         } else {
             0.0
         }
@@ -76,10 +94,11 @@ impl RateController {
 
     // The families' offsets.
     pub fn family_offsets(self) -> Offsets
-        ensures { λ r. ⌜ r ≡ self .state .offsets ⌝ }
+        ensures { λ r. ⌜ r ≡ self .state .core .offsets ⌝ }
     {
         let s = self.state;
-        s.offsets
+        let c = s.core;
+        c.offsets
     }
 
     // A rung's account so far; zero outside the table.
@@ -88,14 +107,11 @@ impl RateController {
     {
         let t = self.table;
         let s = self.state;
-        if ladder::read::in_table(t, mode) {
+        let air = t.air;
+        if ladder::read::in_table(air, mode) {
             account::state::account_of(s, mode)
         } else {
-            Account {
-                bytes: 0.0,
-                air: 0.0,
-                frames: 0.0,
-            }
+            account::state::no_account()
         }
     }
 
@@ -105,8 +121,11 @@ impl RateController {
     {
         let t = self.table;
         let rungs = t.front;
-        let count = t.places;
-        Front { rungs, count }
+        let air = t.air;
+        Front {
+            rungs,
+            count: air.places,
+        }
     }
 
     // The rung to use: the one being tried, else the choice.
@@ -115,7 +134,8 @@ impl RateController {
     {
         let t = self.table;
         let s = self.state;
-        let y = s.trying;
+        let c = s.core;
+        let y = c.trying;
         match y {
             Trying::Nothing => account::state::choice_of(t, s),
             Trying::Running(r, _, _) => r,
@@ -136,7 +156,8 @@ impl RateController {
         ensures { λ r. ⌜ r ≡ probingOf self ⌝ }
     {
         let s = self.state;
-        let y = s.trying;
+        let c = s.core;
+        let y = c.trying;
         match y {
             Trying::Nothing => Probing::Nothing,
             Trying::Running(r, _, _) => Probing::At(r),
@@ -145,18 +166,20 @@ impl RateController {
 
     // The smoothed SNR.
     pub fn snr_db(self) -> Reading
-        ensures { λ r. ⌜ r ≡ self .state .snr ⌝ }
+        ensures { λ r. ⌜ r ≡ self .state .core .snr ⌝ }
     {
         let s = self.state;
-        s.snr
+        let c = s.core;
+        c.snr
     }
 
     // The path's echo, smoothed.
     pub fn echo(self) -> Reading
-        ensures { λ r. ⌜ r ≡ self .state .echo ⌝ }
+        ensures { λ r. ⌜ r ≡ self .state .core .echo ⌝ }
     {
         let s = self.state;
-        s.echo
+        let c = s.core;
+        c.echo
     }
 
     // The threshold of a rung; missing outside the table.
@@ -164,7 +187,8 @@ impl RateController {
         ensures { λ r. ⌜ r ≡ thresholdOf self (mode .0) ⌝ }
     {
         let t = self.table;
-        if ladder::read::in_table(t, mode) {
+        let air = t.air;
+        if ladder::read::in_table(air, mode) {
             let row = ladder::read::row_of(t, mode);
             Reading::Value(row.threshold)
         } else {
@@ -180,7 +204,13 @@ impl RateController {
             let t = self.table;
             let p = self.prices;
             let s = self.state;
-            let i = steps::echo::first_place(t, p, s, snr_db);
+            let air = t.air;
+            let c = s.core;
+            let accounts = s.accounts;
+            let reals = reals_of(t);
+            let wholes = wholes_of(t);
+            let books = books_of(accounts);
+            let i = steps::echo::first_place(air, p, &reals, &wholes, &books, c, snr_db);
             First::At(ladder::read::rung_at(t, Place(i)))
         } else {
             First::Refused(Refusal::OutsideLimits)

@@ -1,26 +1,19 @@
 // What the steps hand on.
-use account::types::State;
-use ladder::types::Place;
-use ladder::types::Rung;
+use account::types::Core;
+use account::types::Offsets;
+use rules::marks::Marks;
 
-// One data frame of a transmission, as the receiving station saw it.
-pub struct Frame {
-    pub rung: Rung,
-    pub detected: bool,
-    pub decoded: bool,
-    pub combined: bool,
-    pub capacity: u32,
+// What one pass over a transmission's frames gathers beside the accounts: the set of rungs sent, offsets, the call's air, the try's own frames, up to 3, and the marks.
+pub struct Pass {
+    pub sent: u32,
+    pub offsets: Offsets,
     pub air: f64,
-}
-
-// The best place found so far, and its value.
-pub enum Best {
-    NoneYet,
-    Found(Place, f64),
+    pub own: u32,
+    pub marks: Marks,
 }
 
 // What `decide` leaves, and whether it began a try.
-pub struct Decided {
-    pub state: State,
+pub struct Decision {
+    pub core: Core,
     pub begun: bool,
 }

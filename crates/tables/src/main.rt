@@ -6,9 +6,9 @@
 ghost use Prim.Native.Nat.{_<_, _≤_};
 use ladder::front::Usable;
 use ladder::table::Tabled;
-use ladder::types::Reading;
 use ladder::types::Rung;
 use libc::STDOUT_FILENO;
+use limits::reading::Reading;
 use limits::refusal::Verdict;
 
 // The bytes before a record's columns.
@@ -174,8 +174,9 @@ fn put_table(made: Tabled) {
     let verdict = made.verdict;
     let table = made.table;
     let front = table.front;
+    let air = table.air;
     put_word(verdict);
-    put_answer(verdict, front, table.places);
+    put_answer(verdict, front, air.places);
 }
 
 fn put_usable(usable: Usable) {

@@ -5,18 +5,18 @@
 ghost use mathlib.Core.Path.{_≡_};
 ghost use Prim.Native.Nat.{_≤_};
 ghost use lib.ListN.{length};
+use account::types::Core;
 use account::types::Mark;
-use account::types::State;
 use account::types::Trying;
-use ladder::types::Reading;
 use ladder::types::Rung;
 use libc::STDOUT_FILENO;
+use limits::reading::Reading;
 use limits::refusal::Verdict;
-use paper::bytes::f64_of;
-use paper::bytes::part;
-use paper::bytes::past;
-use paper::bytes::reading_of;
-use paper::bytes::u32_of;
+use question::bytes::f64_of;
+use question::bytes::part;
+use question::bytes::past;
+use question::bytes::reading_of;
+use question::bytes::u32_of;
 use rate::types::Answer;
 use rate::types::Made;
 use rate::types::RateController;
@@ -139,17 +139,17 @@ fn mix_rated(h: u64, x: Rated) -> u64 {
 }
 
 // The state but for the rungs.
-fn mix_state(h: u64, s: State) -> u64 {
-    let place = s.place;
-    let trying = s.trying;
-    let snr = s.snr;
-    let echo = s.echo;
-    let offsets = s.offsets;
-    let clean = s.clean;
+fn mix_core(h: u64, c: Core) -> u64 {
+    let place = c.place;
+    let trying = c.trying;
+    let snr = c.snr;
+    let echo = c.echo;
+    let offsets = c.offsets;
+    let clean = c.clean;
     let begun = mix_trying(mix(h, place.0 as u64), trying);
     let read = mix_reading(mix_reading(begun, snr), echo);
     let moved = mix_float(mix_float(read, offsets.floor), offsets.ofdm);
-    mix_mark(mix_flag(moved, s.failed), clean)
+    mix_mark(mix_flag(moved, c.failed), clean)
 }
 
 // One rung: its account, time, wait, value, estimate and `lossless`.
@@ -180,7 +180,9 @@ fn mix_rungs(h: u64, k: RateController, n: u32) -> u64 {
 fn hash(k: RateController) -> u64 {
     let t = k.table;
     let s = k.state;
-    mix_rungs(mix_state(0xcbf2_9ce4_8422_2325, s), k, t.count)
+    let air = t.air;
+    let c = s.core;
+    mix_rungs(mix_core(0xcbf2_9ce4_8422_2325, c), k, air.count)
 }
 
 // ---- reading a list
@@ -285,12 +287,14 @@ fn tell(a: Answer) {
     let k = a.controller;
     let t = k.table;
     let s = k.state;
-    let y = s.trying;
+    let air = t.air;
+    let c = s.core;
+    let y = c.trying;
     let here = k.choice();
     let verdict = a.verdict;
     let chosen = put_tried(put_number(empty(), here.0), y);
     let marked = put_flag(
-        put_flag(put_flag(chosen, k.refuses(Rung(t.floors))), a.ended),
+        put_flag(put_flag(chosen, k.refuses(Rung(air.floors))), a.ended),
         a.begun,
     );
     show(put_number(marked, number_of(verdict)));
@@ -305,7 +309,7 @@ fn play_calls(start: RateController, bytes: &[u8], first: usize, calls: u32) -> 
     let mut left = calls;
     while left > 0 {
         let n = u32_of(past(bytes, at)) as usize;
-        let a = paper::event::answer_event(k, part(bytes, further(at, 4), n));
+        let a = question::event::answer_event(k, part(bytes, further(at, 4), n));
         tell(a);
         let next = a.controller;
         k = next;
@@ -355,8 +359,9 @@ fn play_list(bytes: &[u8], at: usize) -> usize {
         }
         Verdict::Accepted => {
             let t = k.table;
+            let air = t.air;
             io::write_all(STDOUT_FILENO, b"table places ");
-            io::print_decimal(STDOUT_FILENO, t.places as u64);
+            io::print_decimal(STDOUT_FILENO, air.places as u64);
             io::write_all(STDOUT_FILENO, b"\n");
             play_calls(k.for_air(wide == 1), bytes, further(calls_at, 4), calls)
         }

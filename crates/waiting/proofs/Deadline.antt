@@ -16,7 +16,7 @@ use Rattle.float.proofs.Monotone.{natural, sub-mono, sub-number, mul-mono-finit
 use Rattle.float.proofs.Sum.{Naturals, from-zero}
 use Rattle.ladder.proofs.Cases.{no-of}
 use Rattle.account.proofs.FullAir.{IsWait, wait-fits}
-use Rattle.steps.specs.Tries.{nano}
+use Rattle.rules.specs.Tries.{nano}
 use Rattle.waiting.specs.Waiting.{f48}
 
 -- a wait of w full transmissions of the air x, less 1e-9

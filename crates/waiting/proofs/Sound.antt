@@ -15,21 +15,22 @@ use Rattle.limits.specs.Values.{okAir, okLength, okBytes, okBurst}
 use Rattle.limits.specs.Refusals.{unless, orElse}
 use Rattle.limits.specs.declared.refusal.Refusal.the-variants.{UnknownRung, TooManyFrames, OutsideLimits, TooManyBursts}
 use Rattle.limits.specs.declared.refusal.Verdict.the-variants.{Accepted}
-use Rattle.ladder.specs.declared.types.Reading.{Reading}
+use Rattle.limits.specs.declared.reading.Reading.{Reading}
 use Rattle.ladder.specs.declared.types.Table.{Table}
 use Rattle.ladder.specs.Lists.{every, filled}
-use Rattle.ladder.specs.Types.{inTable, okSnr}
+use Rattle.ladder.specs.Types.{inTable}
+use Rattle.limits.specs.Readings.{okSnr}
 use Rattle.ladder.proofs.Entries.{all-replicate, every-get}
 use Rattle.limits.proofs.Verdicts.{or-else, unless-not}
 use Rattle.ladder.proofs.TableSound.{TableSound, made-sound}
 use Rattle.account.proofs.FullAir.{TariffSound, IsWait, air-natural}
-use Rattle.steps.specs.declared.types.Frame.{Frame}
-use Rattle.steps.specs.Echo.{silent}
-use Rattle.steps.specs.Booking.{airs, callAir}
-use Rattle.steps.proofs.Clock.{Clock, Ticks, zero-natural, frames-ticks, echo-untimed, seed-untimed}
+use Rattle.rules.specs.declared.types.Frame.{Frame}
+use Rattle.rules.specs.Echo.{silent}
+use Rattle.rules.specs.Booking.{airs, callAir}
+use Rattle.rules.proofs.Clock.{Clock, Ticks, zero-natural, frames-ticks, echo-untimed, seed-untimed}
 use Rattle.rate.specs.declared.types.RateController.{RateController}
 use Rattle.rate.specs.declared.types.Answer.{Answer}
-use Rattle.steps.specs.Check.{frameVerdict, firstBad}
+use Rattle.rules.specs.Check.{frameVerdict, firstBad}
 use Rattle.rate.specs.Calls.{Call, Frames, Echo, Silence, Snr, Seed, Price, Family, verdict, accepted, step, after}
 use Rattle.waiting.specs.Waiting.{Fresh, fresh}
 use Rattle.rate.proofs.Stepping.{by-verdict}

@@ -16,7 +16,7 @@ use Rattle.float.proofs.Monotone.{natural}
 use Rattle.float.proofs.Sum.{Naturals}
 use Rattle.limits.specs.declared.refusal.Verdict.{Verdict}
 use Rattle.limits.specs.declared.refusal.Verdict.the-variants.{Accepted}
-use Rattle.ladder.specs.declared.types.Reading.{Reading}
+use Rattle.limits.specs.declared.reading.Reading.{Reading}
 use Rattle.ladder.specs.declared.types.Table.{Table}
 use Rattle.ladder.specs.Types.{rungAt, rungsOf, placesOf}
 use Rattle.ladder.proofs.Cases.{yes-of}
@@ -25,13 +25,13 @@ use Rattle.account.specs.declared.types.State.{State}
 use Rattle.account.specs.State.{runs, timeOf, waitOf}
 use Rattle.account.specs.Price.{fullAir, waitSeconds}
 use Rattle.account.proofs.FullAir.{full-finite, full-natural}
-use Rattle.steps.specs.declared.types.Frame.{Frame}
-use Rattle.steps.specs.Echo.{out, usable, silent}
-use Rattle.steps.specs.Booking.{callAir}
-use Rattle.steps.specs.Tries.{decide}
-use Rattle.steps.specs.Transmission.{inside, observeFrames}
-use Rattle.steps.proofs.Clock.{Ticks, time-natural, wait-is, inside-ticks, Untimed, echo-untimed, seed-untimed}
-use Rattle.steps.proofs.Calm.{inside-given, decide-waits}
+use Rattle.rules.specs.declared.types.Frame.{Frame}
+use Rattle.rules.specs.Echo.{out, usable, silent}
+use Rattle.rules.specs.Booking.{callAir}
+use Rattle.rules.specs.Tries.{decide}
+use Rattle.rules.specs.Transmission.{inside, observeFrames}
+use Rattle.rules.proofs.Clock.{Ticks, time-natural, wait-is, inside-ticks, Untimed, echo-untimed, seed-untimed}
+use Rattle.rules.proofs.Calm.{inside-given, decide-waits}
 use Rattle.rate.specs.declared.types.RateController.{RateController}
 use Rattle.rate.specs.declared.types.Answer.{Answer}
 use Rattle.rate.specs.Calls.{Call, Frames, Echo, Silence, Snr, Seed, Price, Family, verdict, accepted, step, after}
@@ -203,18 +203,18 @@ module _ (t : Table) (i : ℕ) (p : Tariff) (w : ℕ) where
           carry x (inl l) = inl (subst (λ (y : Float). T (lt y end)) (sym x) l)
           carry x (inr l) = inr l
 
-runs-short : (k : RateController) → Sound k → (run : List Call) → 1 ≤ frameCalls k run → Throughout (k .state .place .0) (k .prices .tariff) k run → T (lt (airSent k run) (bound k))
+runs-short : (k : RateController) → Sound k → (run : List Call) → 1 ≤ frameCalls k run → Throughout (k .state .core .place .0) (k .prices .tariff) k run → T (lt (airSent k run) (bound k))
 runs-short k s run n h =
     let t = k .table in
     let p = k .prices .tariff in
-    let i = k .state .place .0 in
+    let i = k .state .core .place .0 in
     let u = rungAt t (suc i) in
     let at = there k s (suc i) (first i p k run h .above-allowed) in
     let w = waitOf (k .state) u in
     waited w (fullAir t p u) (wait-is (k .state) (s .ticks) u (at .2)) (full-finite t p (s .table) (s .tariff) u (at .1)) (full-natural t p (s .table) (s .tariff) u (at .1))
     (callAirs k run) (timeOf (k .state) u) (airs-natural run k) (time-natural (k .state) (s .ticks) u (at .2)) (goes t i p w run k refl refl s h (inr n))
 
-fresh-idle : (k : RateController) → Fresh k → runs (k .state .trying) ≡ false
+fresh-idle : (k : RateController) → Fresh k → runs (k .state .core .trying) ≡ false
 fresh-idle k (fresh c wide e) = refl
 
 -- ---- Demand 3

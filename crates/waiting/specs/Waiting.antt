@@ -10,8 +10,8 @@ use Rattle.float.specs.Numbers.{f64, _⊖_, _⊗_, f0}
 use Rattle.float.specs.Sum.{total}
 use Rattle.limits.specs.declared.refusal.Verdict.{Verdict}
 use Rattle.limits.specs.declared.refusal.Verdict.the-variants.{Accepted, Refused}
-use Rattle.ladder.specs.declared.types.Reading.{Reading}
-use Rattle.ladder.specs.declared.types.Reading.the-variants.{Missing}
+use Rattle.limits.specs.declared.reading.Reading.{Reading}
+use Rattle.limits.specs.declared.reading.Reading.the-variants.{Missing}
 use Rattle.ladder.specs.Types.{rungAt}
 use Rattle.ladder.specs.Tables.{Columns, tableVerdict, tableOf, forAir}
 use Rattle.account.specs.declared.types.Trying.the-variants.{Nothing}
@@ -19,11 +19,11 @@ use Rattle.account.specs.declared.types.Tariff.{Tariff}
 use Rattle.account.specs.declared.types.State.{State}
 use Rattle.account.specs.State.{runs}
 use Rattle.account.specs.Price.{value, losslessPrice, fullAir}
-use Rattle.steps.specs.declared.types.Frame.{Frame}
-use Rattle.steps.specs.Echo.{usable}
-use Rattle.steps.specs.Booking.{sent, callAir}
-use Rattle.steps.specs.Tries.{nano}
-use Rattle.steps.specs.Transmission.{inside}
+use Rattle.rules.specs.declared.types.Frame.{Frame}
+use Rattle.rules.specs.Echo.{usable}
+use Rattle.rules.specs.Booking.{sent, callAir}
+use Rattle.rules.specs.Tries.{nano}
+use Rattle.rules.specs.Transmission.{inside}
 use Rattle.rate.specs.declared.types.RateController.{RateController}
 use Rattle.rate.specs.Calls.{Call, Frames, Echo, Silence, Snr, Seed, Price, Family, freshController, step, after}
 
@@ -94,17 +94,17 @@ abbrev pub f48 : Float
 f48 = f64 0x4048_0000_0000_0000
 
 abbrev pub bound : RateController → Float
-bound k = f48 ⊗ fullAir (k .table) (k .prices .tariff) (rungAt (k .table) (suc (k .state .place .0))) ⊖ nano
+bound k = f48 ⊗ fullAir (k .table) (k .prices .tariff) (rungAt (k .table) (suc (k .state .core .place .0))) ⊖ nano
 
 -- ---- a run's conditions, i being the choice at its start and p the prices set then
 -- "its conditions hold before and after each call"
 pub record Quiet (i : ℕ) (p : Tariff) (k : RateController) : Type 0 where
   -- "choice .. stay"
-  pub choice-stays : k .state .place .0 ≡ i
+  pub choice-stays : k .state .core .place .0 ≡ i
   -- "and prices stay"
   pub prices-stay : k .prices .tariff ≡ p
   -- "no try is running"; `marks-tell`, below, ties this to the marks
-  pub no-try : k .state .trying ≡ Nothing
+  pub no-try : k .state .core .trying ≡ Nothing
   -- "echo allows the choice"; "echo allows a rung that exists and is not out"
   pub choice-allowed : T (usable (k .table) (k .state) i)
   -- "and the rung above"
@@ -129,7 +129,7 @@ Throughout i p k (c ∷ cs) = Quiet i p k × (T (frameCall k c) → Outbid i k c
 -- ---- the claim
 pub record Waiting (k : RateController) (calls : List Call) : Type 0 where
   -- what the controller holds as its running try is the try that the marks tell of
-  pub marks-tell : (before rest : List Call) → calls ≡ before ++ rest → runs (after k before .state .trying) ≡ runsAfter false k before
+  pub marks-tell : (before rest : List Call) → calls ≡ before ++ rest → runs (after k before .state .core .trying) ≡ runsAfter false k before
   -- "A try has ended by the sixth later accepted call that carries frames.": c returns *begun*, and `later` has six such calls
   pub tries-end : (before : List Call) (c : Call) (later rest : List Call) → calls ≡ before ++ c ∷ later ++ rest
       → T (step (after k before) c .begun)
@@ -139,7 +139,7 @@ pub record Waiting (k : RateController) (calls : List Call) : Type 0 where
   -- transmissions at that rung, less 1e-9 s."
   pub runs-are-short : (before run rest : List Call) → calls ≡ before ++ run ++ rest
       → 1 ≤ frameCalls (after k before) run
-      → Throughout (after k before .state .place .0) (after k before .prices .tariff) (after k before) run
+      → Throughout (after k before .state .core .place .0) (after k before .prices .tariff) (after k before) run
       → T (lt (airSent (after k before) run) (bound (after k before)))
 
 -- "Take every fresh controller and every list of calls on it: frames, SNR and echo readings, silences, seeds, prices, families, in any order and with any

@@ -10,6 +10,7 @@ pub mod event;
 pub mod forms;
 pub mod inputs;
 pub mod limits;
+pub mod list;
 pub mod natural;
 pub mod oracle;
 pub mod paper;

@@ -34,7 +34,14 @@ impl Oracle {
         }
     }
 
-    /// Takes a call. A refused one changes nothing.
+    /// A fresh controller "with the air's tables" and `for_air`.
+    pub fn for_air(wide: bool) -> Self {
+        let table = if wide { Table::wide() } else { Table::narrow() };
+        Self::new(&table, wide).expect("the airs' tables are accepted")
+    }
+
+    /// Takes a call. A refused one changes nothing. It is laid into each caller: none is slower for there being others.
+    #[inline(always)]
     pub fn take(&mut self, event: &Event) -> Answer {
         let verdict = self.verdict(event);
         let ran = self.rate.probing().is_some();
@@ -96,7 +103,9 @@ impl Oracle {
         }
     }
 
-    fn apply(&mut self, event: &Event) {
+    /// The Rust's own method for a call that is not refused.
+    #[inline(always)]
+    pub fn apply(&mut self, event: &Event) {
         match event {
             Event::Frames { snr_db, frames } => {
                 let frames: Vec<FrameOutcome> = frames.iter().map(outcome).collect();
@@ -141,7 +150,8 @@ fn prices_verdict(lengths: [f64; 3], bursts: &[u16]) -> u32 {
     }
 }
 
-fn outcome(frame: &Frame) -> FrameOutcome {
+/// A frame as the Rust takes it.
+pub fn outcome(frame: &Frame) -> FrameOutcome {
     FrameOutcome {
         mode: frame.rung.into(),
         air_s: frame.air_s,

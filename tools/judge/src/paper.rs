@@ -4,7 +4,6 @@
 use crate::event::{Event, Frame};
 use crate::limits::{LEAST_FILE, MOST_EVENTS, MOST_FILE};
 use crate::oracle::Oracle;
-use crate::table::Table;
 use std::fmt::Write;
 
 /// "Its output buffer is 32,768 bytes."
@@ -27,14 +26,9 @@ impl Paper {
         Ok(Self { wide, events })
     }
 
-    /// A fresh controller "with the air's tables" and `for_air`.
+    /// The fresh controller of its air.
     pub fn controller(&self) -> Oracle {
-        let table = if self.wide {
-            Table::wide()
-        } else {
-            Table::narrow()
-        };
-        Oracle::new(&table, self.wide).expect("the airs' tables are accepted")
+        Oracle::for_air(self.wide)
     }
 
     /// The sheet: a line an event.

@@ -4,7 +4,7 @@ use Prim.Native.Nat.{_-_}
 use native.Mathlib.Omega.{arith}
 use lib.ListN.{replicate}
 use borrow.Author.Needs.{needs}
-use Rattle.ladder.specs.declared.types.Reading.the-variants.{Missing}
+use Rattle.limits.specs.declared.reading.Reading.the-variants.{Missing}
 use Rattle.ladder.proofs.Tabulating.{Tabulating, tabulating-starts, tabulating-stores, tabulating-ends}
 use Rattle.exports.specs.Tables.{readingAt, readingsOf}
 use Rattle.exports.proofs.tables.readings_of.Statement.{statement}

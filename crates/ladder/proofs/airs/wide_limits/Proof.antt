@@ -5,7 +5,7 @@ use Prim.Native.Nat.{_-_, _<_, _≤_}
 use native.Mathlib.Omega.{arith}
 use lib.ListN.{take, drop, replicate}
 use borrow.Author.Needs.{needs}
-use Rattle.ladder.specs.Types.{Missing}
+use Rattle.limits.specs.declared.reading.Reading.the-variants.{Missing}
 use Rattle.ladder.specs.Airs.{wideLimits}
 use Rattle.ladder.proofs.Arrays.{copied}
 use Rattle.ladder.proofs.airs.wide_limits.Statement.{statement}

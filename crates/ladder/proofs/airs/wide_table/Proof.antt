@@ -3,7 +3,7 @@ use mathlib.Core.Path.{ap, _∙_}
 use mathlib.Core.List.{List}
 use lib.Ieee.{ofBits, neg}
 use borrow.Author.Needs.{needs}
-use Rattle.ladder.specs.Types.{Reading}
+use Rattle.limits.specs.declared.reading.Reading.{Reading}
 use Rattle.ladder.specs.Tables.{columns, tabled}
 use Rattle.ladder.specs.Airs.{wideThresholds, widePayloads, wideCapacities, wideTimes}
 use Rattle.ladder.proofs.airs.wide_table.Statement.{statement}

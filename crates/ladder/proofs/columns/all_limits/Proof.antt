@@ -8,7 +8,9 @@ use lib.ListN.{length, getD, take, drop}
 use lib.Seq.{getD-take, length-take-le}
 use borrow.Author.Needs.{needs}
 use Rattle.ladder.specs.Lists.{every}
-use Rattle.ladder.specs.Types.{Reading, Missing, okLimit}
+use Rattle.limits.specs.declared.reading.Reading.{Reading}
+use Rattle.limits.specs.declared.reading.Reading.the-variants.{Missing}
+use Rattle.limits.specs.Readings.{okLimit}
 use Rattle.ladder.proofs.Every.{every-stops, every-goes-on, every-ends}
 use Rattle.ladder.proofs.columns.all_limits.Statement.{statement}
 use Rattle.ladder.proofs.columns.all_limits.Tie as tie

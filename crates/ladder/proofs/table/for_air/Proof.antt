@@ -1,13 +1,14 @@
--- `ladder::table::for_air` meets its contract: the branch tells what `wide` is. Assumes nothing.
+-- `ladder::table::for_air` meets its contract: its rows and front stay. Assumes nothing.
 use mathlib.Core.Path.{refl}
+use borrow.Author.Needs.{needs}
 use Rattle.ladder.proofs.table.for_air.Statement.{statement}
 use Rattle.ladder.proofs.table.for_air.Tie as tie
 
-returns : tie.Need-returns
-returns c = rw (c .if1 .taken) refl
+air-for-requires : tie.Need-air-for-requires
+air-for-requires c κs = search needs
 
-returns-2 : tie.Need-returns-2
-returns-2 c = rw (c .if1 .left) refl
+returns : tie.Need-returns
+returns c = rw (c .air-for .ensures) refl
 
 pub for-air-spec : {M : Type 1} → statement M
-for-air-spec = tie.close (tie.spec returns returns-2)
+for-air-spec = tie.close (tie.spec air-for-requires returns)

@@ -20,12 +20,6 @@ mul-threshold c = search needs
 shared-slice-read-threshold : tie.Need-shared-slice-read-threshold
 shared-slice-read-threshold c = search needs
 
-mul-payload : tie.Need-mul-payload
-mul-payload c = search needs
-
-shared-slice-read-payload : tie.Need-shared-slice-read-payload
-shared-slice-read-payload c = search needs
-
 mul-capacity : tie.Need-mul-capacity
 mul-capacity c = search needs
 
@@ -43,8 +37,8 @@ limit-at-requires c κs = search needs
 
 returns-2 : tie.Need-returns-2
 returns-2 c =
-    let b = c .before .before .before .before .before in
-    let a = b .before .before .before .before .before .args in
+    let b = c .before .before .before .before in
+    let a = b .before .before .before .before .args in
     let threshold = any-default (a .thresholds .now) (a .r) nan f0 (search needs) in
     let time = any-default (a .times .now) (a .r) nan f1 (search needs) in
     rw (lt-ltb _ _ (b .if1 .left), threshold, time, c .limit-at .ensures) refl
@@ -57,8 +51,6 @@ row-at-spec =
     returns
     mul-threshold
     shared-slice-read-threshold
-    mul-payload
-    shared-slice-read-payload
     mul-capacity
     shared-slice-read-capacity
     mul-time

@@ -1,5 +1,6 @@
 -- `ladder::table::rows_of` meets its contract: each turn stores its rung's row. Assumes nothing.
 use mathlib.Core.Path.{refl}
+use mathlib.Core.List.{[]}
 use Prim.Native.Nat.{_-_}
 use native.Mathlib.Omega.{arith}
 use lib.ListN.{replicate}
@@ -10,19 +11,19 @@ use Rattle.ladder.proofs.table.rows_of.Statement.{statement}
 use Rattle.ladder.proofs.table.rows_of.Tie as tie
 
 abbrev Inv-loop : tie.InvT-loop
-Inv-loop thresholds payloads capacities times limits limited rows₀ r₀ rows r =
-    Tabulating (rowOf (columns thresholds payloads capacities times 0 limits limited)) 32 r rows
+Inv-loop thresholds capacities times limits limited rows₀ r₀ rows r =
+    Tabulating (rowOf (columns thresholds [] capacities times 0 limits limited)) 32 r rows
 
 abbrev μ-loop : tie.MeasureT-loop
-μ-loop thresholds payloads capacities times limits limited rows₀ r₀ rows r = 32 - r
+μ-loop thresholds capacities times limits limited rows₀ r₀ rows r = 32 - r
 
 no-row-requires : tie.Need-no-row-requires Inv-loop μ-loop
 no-row-requires c κs = search needs
 
 loop-holds : tie.Need-loop-holds Inv-loop μ-loop
 loop-holds c =
-    let a = c .before .before .before .before .before .args in
-    let row = rowOf (columns (a .thresholds .now) (a .payloads .now) (a .capacities .now) (a .times .now) 0 (a .limits) (a .limited)) in
+    let a = c .before .before .before .before .args in
+    let row = rowOf (columns (a .thresholds .now) [] (a .capacities .now) (a .times .now) 0 (a .limits) (a .limited)) in
     tabulating-starts row 32 (replicate 32 (c .no-row .result)) refl
 
 row-at-requires : tie.Need-row-at-requires Inv-loop μ-loop
@@ -43,16 +44,16 @@ loop-less c = omega arith
 loop-again : tie.Need-loop-again Inv-loop μ-loop
 loop-again c =
     let s = c .before .before in
-    let a = s .before .before .before .before .before .before .args in
-    let row = rowOf (columns (a .thresholds .now) (a .payloads .now) (a .capacities .now) (a .times .now) 0 (a .limits) (a .limited)) in
+    let a = s .before .before .before .before .before .args in
+    let row = rowOf (columns (a .thresholds .now) [] (a .capacities .now) (a .times .now) 0 (a .limits) (a .limited)) in
     tabulating-stores row 32 (s .loop .r) (s .loop .rows) (s .loop .inv) (c .row-at .result) (omega arith) (c .row-at .ensures)
 
 returns : tie.Need-returns Inv-loop μ-loop
 unfolding rowsOf
 returns c =
     let s = c .before in
-    let a = s .before .before .before .before .before .before .args in
-    let row = rowOf (columns (a .thresholds .now) (a .payloads .now) (a .capacities .now) (a .times .now) 0 (a .limits) (a .limited)) in
+    let a = s .before .before .before .before .before .args in
+    let row = rowOf (columns (a .thresholds .now) [] (a .capacities .now) (a .times .now) 0 (a .limits) (a .limited)) in
     tabulating-ends row 32 (s .loop .r) (s .loop .rows) (s .loop .inv) (omega arith)
 
 pub rows-of-spec : {M : Type 1} → statement M

@@ -114,7 +114,10 @@ returns-5 c =
     c .refused-table5 .ensures ∙ sym (empty-front (at4 f) (sizes (first e)) (same e) (values v) (floors f) none)
 
 rows-of-requires : tie.Need-rows-of-requires
-rows-of-requires c κs = let e = second (c .before .before .before .before) in table-lengths (at2 e) (same e)
+rows-of-requires c κs =
+    let e = second (c .before .before .before .before) in
+    let l = table-lengths (at2 e) (same e) in
+    (l .0 .time, l .1)
 
 cast-count : tie.Need-cast-count
 cast-count c = let s = first (second (c .before .before .before .before .before)) in omega (arith, table-sizes (at1 s) (sizes s) .1)

@@ -2,8 +2,8 @@
 use mathlib.Core.Path.{_≡_, refl, ap, _∙_}
 use Prim.Native.Nat.{_-_}
 use borrow.Author.Needs.{needs}
-use Rattle.steps.specs.Check.{beginCheck, checkStep, checkAll}
-use Rattle.paper.specs.Body.{frameOf}
+use Rattle.rules.specs.bridges.Check.{beginCheck, checkStep, checkAll}
+use Rattle.question.specs.Body.{frameOf}
 use Rattle.paper.proofs.FrameWalk.{framesFrom, fold-next, fold-end}
 use Rattle.paper.proofs.frames.check_body.Statement.{statement}
 use Rattle.paper.proofs.frames.check_body.Tie as tie

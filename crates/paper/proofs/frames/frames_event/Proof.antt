@@ -3,9 +3,10 @@ use mathlib.Core.Path.{_≡_, ap, _∙_}
 use lib.ListN.{drop}
 use borrow.Author.Needs.{needs}
 use Rattle.rate.specs.Calls.{Frames, verdict}
-use Rattle.play.proofs.Passed.{frames-verdict, accepted-step, refused-step}
-use Rattle.paper.specs.Bytes.{readingOf}
-use Rattle.paper.specs.Body.{framesIn}
+use Rattle.rate.proofs.Transmitted.{frames-verdict, accepted-step, refused-step}
+use Rattle.question.specs.Bytes.{readingOf}
+use Rattle.question.specs.Body.{framesIn}
+use Rattle.steps.specs.bridges.Held.{laid}
 use Rattle.paper.proofs.frames.frames_event.Statement.{statement}
 use Rattle.paper.proofs.frames.frames_event.Tie as tie
 
@@ -25,10 +26,10 @@ frames-verdict-requires c κs = search needs
 told : (c : tie.After-frames-verdict) → c .before .before .reading-of .result ≡ readingOf (drop 1 (c .before .before .before .before .before .before .before .before .before .before .before .args .body .now))
 told c = c .before .before .reading-of .ensures ∙ ap readingOf (c .before .before .before .past .ensures)
 
-judged : (c : tie.After-frames-verdict) → let a = c .before .before .before .before .before .before .before .before .before .before .before .args in c .frames-verdict .result ≡ verdict (a .t) (Frames (framesIn (a .body .now)) (c .before .before .reading-of .result))
+judged : (c : tie.After-frames-verdict) → let a = c .before .before .before .before .before .before .before .before .before .before .before .args in c .frames-verdict .result ≡ verdict (laid (a .t) (a .reals .now) (a .wholes .now)) (Frames (framesIn (a .body .now)) (c .before .before .reading-of .result))
 judged c =
     let a = c .before .before .before .before .before .before .before .before .before .before .before .args in
-    c .frames-verdict .ensures ∙ frames-verdict (a .t) (framesIn (a .body .now)) (c .before .before .reading-of .result) (c .before .check-body .result) (c .before .check-body .ensures)
+    c .frames-verdict .ensures ∙ frames-verdict (laid (a .t) (a .reals .now) (a .wholes .now)) (framesIn (a .body .now)) (c .before .before .reading-of .result) (c .before .check-body .result) (c .before .check-body .ensures)
 
 enum-told : tie.Need-enum-told
 enum-told c = search needs
@@ -60,14 +61,14 @@ returns c =
     let e = r .before .before .before .before .before in
     let v = e .before .before in
     let a = v .before .before .before .before .before .before .before .before .before .before .before .args in
-    (rw (← told v, ← accepted-step (a .t) (a .p) (a .books .now) (a .since .now) (a .wait .now) (a .c) (framesIn (a .body .now)) (v .before .before .reading-of .result) (v .frames-verdict .result) (judged v) (e .enum-told .given .1)) (r .take-frames .ensures .0), r .take-frames .ensures .1)
+    (rw (← told v, ← accepted-step (laid (a .t) (a .reals .now) (a .wholes .now)) (a .p) (a .books .now) (a .since .now) (a .wait .now) (a .c) (framesIn (a .body .now)) (v .before .before .reading-of .result) (v .frames-verdict .result) (judged v) (e .enum-told .given .1)) (r .take-frames .ensures .0), r .take-frames .ensures .1)
 
 returns-2 : tie.Need-returns-2
 returns-2 c =
     let v = c .before .before .before .before in
     let s = v .before .before .before .before .before .before .before .before .before .before .before in
     let a = s .args in
-    (rw (← told v, c .refused .ensures) (refused-step (a .t) (a .p) (a .books .now) (a .since .now) (a .wait .now) (a .c) (framesIn (a .body .now)) (v .before .before .reading-of .result) (v .frames-verdict .result) (judged v) _ (c .before .before .why .given .1)), s .pre .1 .1 .1 .1 .1 .1)
+    (rw (← told v, c .refused .ensures) (refused-step (laid (a .t) (a .reals .now) (a .wholes .now)) (a .p) (a .books .now) (a .since .now) (a .wait .now) (a .c) (framesIn (a .body .now)) (v .before .before .reading-of .result) (v .frames-verdict .result) (judged v) _ (c .before .before .why .given .1)), s .pre .1 .1 .1)
 
 pub frames-event-spec : {M : Type 1} → statement M
 frames-event-spec =

@@ -5,10 +5,10 @@ use Prim.Native.Nat.{_<_}
 use native.Mathlib.Omega.{arith}
 use borrow.Author.Needs.{needs}
 use lib.ListN.{length}
-use Rattle.play.specs.Held.{decidedOf}
-use Rattle.play.proofs.Passed.{passes-accepted, empty-accepted}
-use Rattle.paper.specs.Body.{framesIn}
-use Rattle.paper.proofs.Bodies.{length-frames}
+use Rattle.steps.specs.bridges.Held.{decidedOf, laid}
+use Rattle.rate.proofs.Transmitted.{passes-accepted, empty-accepted}
+use Rattle.question.specs.Body.{framesIn}
+use Rattle.question.proofs.Bodies.{length-frames}
 use Rattle.paper.proofs.frames.take_frames.Statement.{statement}
 use Rattle.paper.proofs.frames.take_frames.Tie as tie
 
@@ -27,8 +27,8 @@ returns c =
     let s = k .before .before .before .before .before .before .before .before .before in
     let a = s .args in
     let none : length (framesIn (a .body .now)) ≡ 0 = length-frames (a .body .now) ∙ sym (k .frame-count .ensures) ∙ c .before .if1 .taken in (
-      rw (c .done .ensures) (empty-accepted (a .t) (a .p) (a .books .now) (a .since .now) (a .wait .now) (a .c) (framesIn (a .body .now)) (a .snr) (k .before .observe-snr .result) (k .before .observe-snr .ensures) none),
-      s .pre .1 .1 .1 .1 .1 .1,
+      rw (c .done .ensures) (empty-accepted (laid (a .t) (a .reals .now) (a .wholes .now)) (a .p) (a .books .now) (a .since .now) (a .wait .now) (a .c) (framesIn (a .body .now)) (a .snr) (k .before .observe-snr .result) (k .before .observe-snr .ensures) none),
+      s .pre .1 .1 .1,
     )
 
 rung-in-requires : tie.Need-rung-in-requires
@@ -37,12 +37,12 @@ rung-in-requires c κs = search needs
 book-body-requires : tie.Need-book-body-requires
 book-body-requires c κs =
     let p = c .before .before .before .before .before .before .before .before .before .before .before .before .before .before .pre in
-    (p .0, (p .1 .1 .0, (p .1 .1 .1 .0, p .1 .1 .1 .1 .1 .1)))
+    (p .0, (p .1 .0, (p .1 .1 .0 .of-books, p .1 .1 .1)))
 
 transmit-requires : tie.Need-transmit-requires
 transmit-requires c κs =
     let p = c .before .before .before .before .before .before .before .before .before .before .before .before .before .before .before .before .before .before .before .before .before .before .before .pre in
-    (p .0, (p .1 .0, (c .before .before .before .before .before .before .before .before .book-body .kept .1 .1 .1 .0 ∙ p .1 .1 .1 .0, (p .1 .1 .1 .1 .0, p .1 .1 .1 .1 .1 .0))))
+    (p .0, record { of-books = c .before .before .before .before .before .before .before .before .book-body .kept .1 .1 .1 .1 .0 ∙ p .1 .1 .0 .of-books; of-since = p .1 .1 .0 .of-since; of-wait = p .1 .1 .0 .of-wait })
 
 done-requires-2 : tie.Need-done-requires-2
 done-requires-2 c κs = search needs
@@ -67,10 +67,10 @@ returns-2 c =
     let k = r .before .before .before in
     let a = k .before .before .before .before .before .before .before .before .before .args in
     let z = k .before .observe-snr .result in
-    let books = y .book-body .last .1 .1 .1 .0 in
+    let books = y .book-body .last .1 .1 .1 .1 .0 in
     let decided = decidedOf books (d .transmit .last .1 .1 .1 .1 .1 .0) (d .transmit .last .1 .1 .1 .1 .1 .1 .0) (d .transmit .result) in
     let some : 0 < length (framesIn (a .body .now)) = omega (arith, length-frames (a .body .now), k .frame-count .ensures, r .before .before .if1 .left) in (
-      rw (c .done2 .ensures) (passes-accepted (a .t) (a .p) (a .books .now) books (a .since .now) (a .wait .now) (a .c) (framesIn (a .body .now)) (a .snr) z (y .book-body .result .pass) decided (k .before .observe-snr .ensures) (y .book-body .ensures .0) (rw (r .rung-in .ensures) at (y .book-body .ensures .1 .0)) (d .transmit .ensures) some),
+      rw (c .done2 .ensures) (passes-accepted (laid (a .t) (a .reals .now) (a .wholes .now)) (a .p) (a .books .now) books (a .since .now) (a .wait .now) (a .c) (framesIn (a .body .now)) (a .snr) z (y .book-body .result .pass) decided (k .before .observe-snr .ensures) (y .book-body .ensures .0) (rw (r .rung-in .ensures) at (y .book-body .ensures .1 .0)) (d .transmit .ensures) some),
       y .book-body .ensures .1 .1,
     )
 

@@ -2,8 +2,9 @@
 use mathlib.Core.Path.{sym, _∙_}
 use borrow.Author.Tests.{eq-eqb, ne-eqb}
 use lib.ListN.{length}
-use Rattle.paper.specs.File.{eventCount}
+use Rattle.question.specs.File.{eventCount}
 use Rattle.paper.specs.Sheet.{markVerdict, markAnswer}
+use Rattle.question.proofs.Events.{few-events}
 use borrow.Author.Needs.{needs}
 use Rattle.paper.proofs.mark.mark.Statement.{statement}
 use Rattle.paper.proofs.mark.mark.Tie as tie
@@ -20,8 +21,8 @@ event-count-requires c κs = search needs
 cast-if1 : tie.Need-cast-if1
 cast-if1 c = search needs
 
-score-all-requires : tie.Need-score-all-requires
-score-all-requires c κs = c .if1 .taken ∙ c .before .event-count .ensures
+run-score-requires : tie.Need-run-score-requires
+run-score-requires c κs = (few-events _ (sym (c .before .before .before .before .file-verdict .ensures) ∙ c .before .before .enum-told .given .1), c .if1 .taken ∙ c .before .event-count .ensures)
 
 enum-known-verdict : tie.Need-enum-known-verdict
 enum-known-verdict c = search needs
@@ -31,7 +32,7 @@ unfolding markAnswer markVerdict
 returns c =
     let a = c .before .before .before .before .before .before .before .before .args in
     let e = eq-eqb (length (a .answers .now)) (eventCount (a .question .now)) (c .before .if1 .taken ∙ c .before .before .event-count .ensures) in
-    rw (← c .before .before .before .before .before .file-verdict .ensures, c .before .before .before .enum-told .given .1, e, c .score-all .ensures)
+    rw (← c .before .before .before .before .before .file-verdict .ensures, c .before .before .before .enum-told .given .1, e, c .run-score .ensures)
 
 returns-2 : tie.Need-returns-2
 unfolding markAnswer markVerdict
@@ -52,7 +53,7 @@ mark-spec =
     enum-told
     event-count-requires
     cast-if1
-    score-all-requires
+    run-score-requires
     enum-known-verdict
     returns
     returns-2

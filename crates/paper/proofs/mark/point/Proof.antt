@@ -5,10 +5,10 @@ use Rattle.paper.proofs.mark.point.Statement.{statement}
 use Rattle.paper.proofs.mark.point.Tie as tie
 
 returns : tie.Need-returns
-returns c = (rw (eq-eqb (c .before .before .args .x) (c .before .before .args .choice .0) (c .if1 .taken)), omega arith)
+returns c = (rw (eq-eqb (c .before .args .x) (c .before .args .choice) (c .if1 .taken)), omega arith)
 
 returns-2 : tie.Need-returns-2
-returns-2 c = (rw (ne-eqb (c .before .before .args .x) (c .before .before .args .choice .0) (c .if1 .left)), omega arith)
+returns-2 c = (rw (ne-eqb (c .before .args .x) (c .before .args .choice) (c .if1 .left)), omega arith)
 
 pub point-spec : {M : Type 1} → statement M
 point-spec = tie.close (tie.spec returns returns-2)

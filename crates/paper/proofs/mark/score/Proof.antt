@@ -1,44 +1,25 @@
--- `mark::score` meets its contract: the verdict decides. Assumes nothing.
-use Rattle.paper.specs.Sheet.{scored}
+-- `mark::score` meets its contract: the mark decides whether the event counts. Assumes nothing.
+use mathlib.Core.Path.{refl}
+use Prim.Native.Nat.{_/_, _%_}
+use borrow.Author.Tests.{eq-eqb, ne-eqb}
 use borrow.Author.Needs.{needs}
 use Rattle.paper.proofs.mark.score.Statement.{statement}
 use Rattle.paper.proofs.mark.score.Tie as tie
 
-enum-told : tie.Need-enum-told
-enum-told c = search needs
-
-choice-requires : tie.Need-choice-requires
-choice-requires c κs = search needs
+returns : tie.Need-returns
+returns c = rw (eq-eqb (c .before .before .args .o .marks / 16 % 2) 1 (c .if1 .taken)) refl
 
 point-requires : tie.Need-point-requires
 point-requires c κs = search needs
 
-add-t9 : tie.Need-add-t9
-add-t9 c = search needs
+add-t5 : tie.Need-add-t5
+add-t5 c = search needs
 
-add-t10 : tie.Need-add-t10
-add-t10 c = search needs
-
-enum-told-2 : tie.Need-enum-told-2
-enum-told-2 c = search needs
-
-returns : tie.Need-returns
-unfolding scored
-returns c = rw (c .before .before .before .before .before .enum-told .given .1, c .before .before .point .ensures .0, c .before .before .before .choice .ensures)
+add-t7 : tie.Need-add-t7
+add-t7 c = search needs
 
 returns-2 : tie.Need-returns-2
-unfolding scored
-returns-2 c = rw (c .enum-told2 .given .1)
+returns-2 c = rw (ne-eqb (c .before .before .before .before .before .args .o .marks / 16 % 2) 1 (c .before .before .before .if1 .left), c .before .before .point .ensures .0) refl
 
 pub score-spec : {M : Type 1} → statement M
-score-spec =
-    tie.close
-    (tie.spec
-    enum-told
-    choice-requires
-    point-requires
-    add-t9
-    add-t10
-    enum-told-2
-    returns
-    returns-2)
+score-spec = tie.close (tie.spec returns point-requires add-t5 add-t7 returns-2)

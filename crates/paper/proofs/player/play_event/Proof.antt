@@ -3,7 +3,8 @@ use mathlib.Core.Path.{_≡_, refl}
 use mathlib.Core.Bool.{false}
 use borrow.Author.Tests.{eq-eqb, ne-eqb}
 use lib.Dec.{eqb}
-use Rattle.paper.specs.Body.{kind}
+use Rattle.question.specs.Body.{kind}
+use Rattle.steps.specs.bridges.Held.{laid}
 use Rattle.paper.proofs.Light.{call-frames, light-moves, light-keeps}
 use borrow.Author.Needs.{needs}
 use Rattle.paper.proofs.player.play_event.Statement.{statement}
@@ -40,7 +41,7 @@ light-event-requires : tie.Need-light-event-requires
 light-event-requires c κs =
     let s = c .before .before .before .before .before .before .before .before .before .before in
     let k = c .before .before .byte-at .ensures .0 in
-    (s .pre .0, (s .pre .1 .0, (s .pre .1 .1 .1 .0, rw (← k) (ne-eqb _ 1 (c .before .if1 .left)))))
+    (s .pre .0, (s .pre .1 .1 .0 .of-books, rw (← k) (ne-eqb _ 1 (c .before .if1 .left))))
 
 same-length-5 : tie.Need-same-length-5
 same-length-5 c = search needs
@@ -52,7 +53,7 @@ returns-2 c =
     let k = c .before .before .before .byte-at .ensures .0 in
     let e : eqb (kind (a .body .now)) 1 ≡ false = rw (← k) (ne-eqb _ 1 (c .before .before .if1 .left)) in
     let q = c .light-event .ensures in
-    (light-moves (a .t) (a .p) (a .books .now) (a .since .now) (a .wait .now) (a .c) (a .body .now) _ e q, (light-keeps (a .t) (a .p) (a .books .now) (a .since .now) (a .wait .now) (a .c) (a .body .now) _ e q, s .pre .1 .1 .1 .1 .1 .1))
+    (light-moves (laid (a .t) (a .reals .now) (a .wholes .now)) (a .p) (a .books .now) (a .since .now) (a .wait .now) (a .c) (a .body .now) _ e q, (light-keeps (laid (a .t) (a .reals .now) (a .wholes .now)) (a .p) (a .books .now) (a .since .now) (a .wait .now) (a .c) (a .body .now) _ e q, s .pre .1 .1 .1))
 
 pub play-event-spec : {M : Type 1} → statement M
 play-event-spec =

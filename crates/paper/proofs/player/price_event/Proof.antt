@@ -10,10 +10,10 @@ price-answer-requires : tie.Need-price-answer-requires
 price-answer-requires c κs = search needs
 
 returns : tie.Need-returns
-returns c =
+returns c = λ k.
     let s = c .before .before in
     let a = s .args in
-    rw (priced-moves (a .t) (a .p) [] [] [] (a .c) (a .body .now) (s .pre), c .price-answer .ensures) refl
+    rw (priced-moves k (a .p) [] [] [] (a .c) (a .body .now) (s .pre), c .price-answer .ensures) refl
 
 pub price-event-spec : {M : Type 1} → statement M
 price-event-spec = tie.close (tie.spec price-answer-requires returns)

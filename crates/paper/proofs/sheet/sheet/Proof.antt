@@ -1,15 +1,10 @@
 -- `sheet::sheet` meets its contract: the file's verdict, then the room. Assumes nothing.
-use mathlib.Core.Path.{_≡_, refl, sym, _∙_}
-use Rattle.limits.specs.declared.refusal.Verdict.the-variants.{Accepted}
-use Rattle.paper.specs.File.{fileVerdict}
+use mathlib.Core.Path.{refl, sym, _∙_}
 use Rattle.paper.specs.Sheet.{sheetVerdict, sheetAnswer, sheetLeft}
-use Rattle.paper.proofs.Printed.{few-events}
+use Rattle.question.proofs.Events.{few-events}
 use borrow.Author.Needs.{needs}
 use Rattle.paper.proofs.sheet.sheet.Statement.{statement}
 use Rattle.paper.proofs.sheet.sheet.Tie as tie
-use Rattle.paper.proofs.sheet.sheet.Reads as reads
-use Rattle.paper.proofs.sheet.fit_sheet.Reads as fit-sheet-reads
-use Rattle.paper.proofs.verdict.file_verdict.Reads as file-verdict-reads
 
 file-verdict-requires : tie.Need-file-verdict-requires
 file-verdict-requires c κs = search needs
@@ -17,8 +12,8 @@ file-verdict-requires c κs = search needs
 enum-told : tie.Need-enum-told
 enum-told c = search needs
 
-fit-sheet-requires : tie.Need-fit-sheet-requires
-fit-sheet-requires c κs = few-events _ (sym (c .before .before .before .file-verdict .ensures) ∙ c .before .enum-told .given .1)
+run-sheet-requires : tie.Need-run-sheet-requires
+run-sheet-requires c κs = few-events _ (sym (c .before .before .before .file-verdict .ensures) ∙ c .before .enum-told .given .1)
 
 enum-known-verdict : tie.Need-enum-known-verdict
 enum-known-verdict c = search needs
@@ -28,7 +23,7 @@ same-length c = search needs
 
 returns : tie.Need-returns
 unfolding sheetVerdict sheetAnswer sheetLeft
-returns c = rw (← c .before .before .before .before .before .before .file-verdict .ensures, c .before .before .before .before .enum-told .given .1) (c .before .before .fit-sheet .ensures)
+returns c = rw (← c .before .before .before .before .before .before .file-verdict .ensures, c .before .before .before .before .enum-told .given .1) (c .before .before .run-sheet .ensures)
 
 returns-2 : tie.Need-returns-2
 unfolding sheetVerdict sheetAnswer sheetLeft
@@ -40,7 +35,7 @@ sheet-spec =
     (tie.spec
     file-verdict-requires
     enum-told
-    fit-sheet-requires
+    run-sheet-requires
     enum-known-verdict
     same-length
     returns

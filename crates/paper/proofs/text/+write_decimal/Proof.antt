@@ -5,7 +5,7 @@ use borrow.Author.Needs.{needs}
 use lib.ListN.{length, length-set}
 use Rattle.paper.specs.Lines.{decimal}
 use Rattle.paper.proofs.Decimal.{decimal-one, decimal-more, length-more}
-use Rattle.paper.proofs.Over.{Over, over-start, put}
+use Rattle.question.proofs.Over.{Over, over-start, put}
 use denote.Ref.{now}
 use Prim.Native.Nat.{ℕ, _/_, _<_}
 use borrow.Fn.Kinds.{In}

@@ -5,8 +5,8 @@ use native.Mathlib.Omega.{arith}
 use borrow.Author.Needs.{needs}
 use lib.ListN.{length, take}
 use lib.Seq.{take-all}
-use Rattle.paper.specs.Lines.{over}
-use Rattle.paper.proofs.Over.{Over, over-len, over-start, copy-next}
+use Rattle.question.specs.Over.{over}
+use Rattle.question.proofs.Over.{Over, over-len, over-start, copy-next}
 use Rattle.paper.proofs.text.write_bytes.Statement.{statement}
 use Rattle.paper.proofs.text.write_bytes.Tie as tie
 

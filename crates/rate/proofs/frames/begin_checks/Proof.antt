@@ -1,5 +1,5 @@
 -- By what the call ensures. Assumes nothing.
-use Rattle.rate.specs.Frames.{beginChecks}
+use Rattle.rate.specs.bridges.Frames.{beginChecks}
 use borrow.Author.Needs.{needs}
 use Rattle.rate.proofs.frames.begin_checks.Statement.{statement}
 use Rattle.rate.proofs.frames.begin_checks.Tie as tie

@@ -1,18 +1,19 @@
--- By what the calls ensure. Assumes nothing.
-use Rattle.rate.specs.Frames.{beginPass}
+-- `rate::frames::begin_pass` meets its contract: a tally at the smoothed core. Assumes nothing.
 use borrow.Author.Needs.{needs}
+use mathlib.Core.Path.{refl}
+use Rattle.rate.specs.bridges.Frames.{smoothed, beginPass}
 use Rattle.rate.proofs.frames.begin_pass.Statement.{statement}
 use Rattle.rate.proofs.frames.begin_pass.Tie as tie
 
-smooth-requires : tie.Need-smooth-requires
-smooth-requires c κs = search needs
+observe-snr-requires : tie.Need-observe-snr-requires
+observe-snr-requires c κs = search needs
 
 begin-tally-requires : tie.Need-begin-tally-requires
 begin-tally-requires c κs = search needs
 
 returns : tie.Need-returns
-unfolding beginPass
-returns c = rw (← c .before .smooth .ensures) (c .begin-tally .ensures)
+unfolding smoothed beginPass
+returns c = rw (c .begin-tally .ensures, c .before .observe-snr .ensures) refl
 
 pub begin-pass-spec : {M : Type 1} → statement M
-begin-pass-spec = tie.close (tie.spec smooth-requires begin-tally-requires returns)
+begin-pass-spec = tie.close (tie.spec observe-snr-requires begin-tally-requires returns)

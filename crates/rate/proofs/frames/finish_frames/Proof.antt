@@ -1,5 +1,5 @@
 -- By the two cases of the verdict. Assumes nothing.
-use Rattle.rate.specs.Frames.{finishFrames}
+use Rattle.rate.specs.bridges.Frames.{finishFrames}
 use borrow.Author.Needs.{needs}
 use Rattle.rate.proofs.frames.finish_frames.Statement.{statement}
 use Rattle.rate.proofs.frames.finish_frames.Tie as tie

@@ -1,7 +1,7 @@
 -- The tests that led to an answer decide the definition's chain. Assumes nothing.
 use mathlib.Core.Path.{refl}
 use borrow.Author.Tests.{lt-leb, le-leb}
-use Rattle.rate.specs.Frames.{framesVerdict}
+use Rattle.rate.specs.bridges.Frames.{framesVerdict}
 use borrow.Author.Needs.{needs}
 use Rattle.rate.proofs.frames.frames_verdict.Statement.{statement}
 use Rattle.rate.proofs.frames.frames_verdict.Tie as tie

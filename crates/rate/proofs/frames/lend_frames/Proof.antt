@@ -7,8 +7,8 @@ use denote.Triple.Spec.{tripleOf}
 use denote.Triple.Table.{entered, cited}
 use Rattle.walk.proofs.Calls.{AroundC}
 use Rattle.walk.proofs.LentAround.{lend-meets}
-use Rattle.steps.proofs.types.Frame as F
-use Rattle.steps.proofs.types.Frame.Laws as F′
+use Rattle.rules.proofs.types.Frame as F
+use Rattle.rules.proofs.types.Frame.Laws as F′
 use Rattle.rate.proofs.Plain.{K, Z, Q, h}
 use Rattle.rate.proofs.types.RateController.observe_frames.Symbol as work-def
 use Rattle.rate.proofs.types.RateController.observe_frames.Symbol.{name as #rate·observe-frames}

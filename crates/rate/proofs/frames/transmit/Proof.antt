@@ -1,21 +1,97 @@
--- By what the calls ensure. Assumes nothing.
-use Rattle.rate.specs.Frames.{transmitted}
+-- `rate::frames::transmit` meets its contract: what the steps in place decided is put together. Assumes nothing.
 use borrow.Author.Needs.{needs}
+use mathlib.Core.Path.{_≡_, sym}
+use lib.ListN.{length}
+use Rattle.ladder.proofs.Arrays.{of-parts}
+use Rattle.steps.specs.bridges.Held.{laid}
+use Rattle.steps.proofs.Laid.{stands}
+use Rattle.rate.proofs.Framing.{transmit-front}
 use Rattle.rate.proofs.frames.transmit.Statement.{statement}
 use Rattle.rate.proofs.frames.transmit.Tie as tie
 
-judge-pass-requires : tie.Need-judge-pass-requires
-judge-pass-requires c κs = search needs
+-- how long the state's arrays are
+since-long : (c : tie.Start) → length (c .args .k .state .since) ≡ 32
+since-long c = search needs
 
-count-try-requires : tie.Need-count-try-requires
-count-try-requires c κs = search needs
+wait-long : (c : tie.Start) → length (c .args .k .state .wait) ≡ 32
+wait-long c = search (needs, c .good .0 .1 .1 .1 .1 .0)
 
-decide-requires : tie.Need-decide-requires
-decide-requires c κs = search needs
+rows-long : (c : tie.Start) → length (c .args .k .table .rows) ≡ 32
+rows-long c = search (needs, of-parts)
+
+front-long : (c : tie.Start) → length (c .args .k .table .front) ≡ 32
+front-long c = search (needs, of-parts)
+
+reals-long : (c : tie.After-reals-of) → length (c .reals-of .result) ≡ 96
+reals-long c = search needs
+
+wholes-long : (c : tie.After-wholes-of) → length (c .wholes-of .result) ≡ 96
+wholes-long c = search needs
+
+books-long : (c : tie.After-books-of) → length (c .books-of .result) ≡ 96
+books-long c = search needs
+
+reals-of-requires : tie.Need-reals-of-requires
+reals-of-requires c κs = search needs
+
+wholes-of-requires : tie.Need-wholes-of-requires
+wholes-of-requires c κs = search needs
+
+books-of-requires : tie.Need-books-of-requires
+books-of-requires c κs = search needs
+
+observe-snr-requires : tie.Need-observe-snr-requires
+observe-snr-requires c κs = search needs
+
+pass-of-requires : tie.Need-pass-of-requires
+pass-of-requires c κs = search needs
+
+slice-aggregate-transmit : tie.Need-slice-aggregate-transmit
+slice-aggregate-transmit c = search needs
+
+slice-aggregate-transmit-2 : tie.Need-slice-aggregate-transmit-2
+slice-aggregate-transmit-2 c = search needs
+
+slice-aggregate-transmit-3 : tie.Need-slice-aggregate-transmit-3
+slice-aggregate-transmit-3 c = search needs
+
+slice-aggregate-transmit-4 : tie.Need-slice-aggregate-transmit-4
+slice-aggregate-transmit-4 c = sym (since-long (c .before .before .before .before .before .before .before .before .before .before .before .before .before .before .before .before .before))
+
+slice-aggregate-transmit-5 : tie.Need-slice-aggregate-transmit-5
+slice-aggregate-transmit-5 c = sym (wait-long (c .before .before .before .before .before .before .before .before .before .before .before .before .before .before .before .before .before .before))
+
+transmit-requires : tie.Need-transmit-requires
+transmit-requires c κs = (
+  record { of-reals = reals-long (c .before .before .before .before .before .before .before .before .before .before .before); of-wholes = wholes-long (c .before .before .before .before .before .before .before .before .before .before) },
+  record { of-books = books-long (c .before .before .before .before .before .before .before .before .before); of-since = since-long (c .before .before .before .before .before .before .before .before .before .before .before .before .before .before .before .before .before .before); of-wait = wait-long (c .before .before .before .before .before .before .before .before .before .before .before .before .before .before .before .before .before .before) },
+)
+
+was-ended-requires : tie.Need-was-ended-requires
+was-ended-requires c κs = search needs
 
 returns : tie.Need-returns
-unfolding transmitted
-returns c = rw (← c .before .before .judge-pass .ensures, ← c .before .count-try .ensures) (c .decide .ensures)
+returns c =
+    let k = c .before .before .before .before .before .before .before .before .before .before .before .before .before .before .before .before .before .before .before .before .before .before .before .args .k in
+    let y = c .before .before .before .before .before .before .before .before .before .before .before .before .before .before .before .before .before .before .before .before .before .before .before .args .y in
+    let d = c .before .before .before .before .transmit in
+    let t : laid (k .table .air) (c .before .before .before .before .before .before .before .before .before .before .before .before .before .before .before .before .reals-of .result) (c .before .before .before .before .before .before .before .before .before .before .before .before .before .before .before .wholes-of .result) ≡ k .table = stands (k .table) _ _ (c .before .before .before .before .before .before .before .before .before .before .before .before .before .before .before .before .reals-of .ensures) (c .before .before .before .before .before .before .before .before .before .before .before .before .before .before .before .wholes-of .ensures) (rows-long (c .before .before .before .before .before .before .before .before .before .before .before .before .before .before .before .before .before .before .before .before .before .before .before)) (front-long (c .before .before .before .before .before .before .before .before .before .before .before .before .before .before .before .before .before .before .before .before .before .before .before)) in
+    transmit-front k y (c .before .before .before .before .before .before .before .before .before .before .before .before .before .before .before .before .before .before .before .before .before .before .before .args .snr) _ _ (d .last .1 .1 .1 .1 .1 .0) (d .last .1 .1 .1 .1 .1 .1 .0) _ _ (d .result) _ t (c .before .before .before .before .before .before .before .before .before .before .before .before .before .before .books-of .ensures) (c .before .before .before .before .before .before .before .before .before .before .before .observe-snr .ensures) (c .before .before .before .before .before .before .before .before .before .before .pass-of .ensures) (d .ensures) (c .was-ended .ensures)
 
 pub transmit-spec : {M : Type 1} → statement M
-transmit-spec = tie.close (tie.spec judge-pass-requires count-try-requires decide-requires returns)
+transmit-spec =
+    tie.close
+    (tie.spec
+    reals-of-requires
+    wholes-of-requires
+    books-of-requires
+    observe-snr-requires
+    pass-of-requires
+    slice-aggregate-transmit
+    slice-aggregate-transmit-2
+    slice-aggregate-transmit-3
+    slice-aggregate-transmit-4
+    slice-aggregate-transmit-5
+    transmit-requires
+    was-ended-requires
+    returns)

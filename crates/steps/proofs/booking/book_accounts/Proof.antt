@@ -1,113 +1,84 @@
--- The invariant: what is left of the rungs, from the accounts now, gives what all rungs give from the start. Assumes nothing.
-use mathlib.Core.List.{List}
-use mathlib.Core.Path.{_≡_, refl, ap, _∙_}
-use Prim.Native.Nat.{ℕ, suc, _+_, _-_, _<_, _≤_, min}
-use native.Mathlib.Numerals.{add-one}
+-- All numbers aged and the frame's own account stored over are what the frame books. Assumes nothing.
+use mathlib.Core.Path.{_≡_, ap, _∙_}
+use Prim.Native.Nat.{ℕ, _*_, min}
 use native.Mathlib.Omega.{arith}
-use lib.Ieee.{Float}
-use lib.ListN.{length, getD, set, length-set}
-use Rattle.float.specs.Numbers.{f1}
-use Rattle.ladder.proofs.Arrays.{inside, of-parts}
-use Rattle.account.specs.State.{noAccount}
-use Rattle.account.specs.declared.types.Account.{Account}
-use Rattle.steps.specs.Booking.{Frame}
-use Rattle.steps.specs.Tally.{bookBy, booksBy}
 use borrow.Author.Needs.{needs}
+use Rattle.rules.proofs.Fade.{own-fade}
+use Rattle.steps.specs.bridges.Held.{accountsOf, laid}
+use Rattle.steps.specs.bridges.Pass.{scaled}
+use Rattle.steps.proofs.Books.{books-own, books-others}
 use Rattle.steps.proofs.booking.book_accounts.Statement.{statement}
 use Rattle.steps.proofs.booking.book_accounts.Tie as tie
 
--- a rung's factor and account, read with whatever default
-one : (fades : List Float) (f : Frame) (i : ℕ) (l : List Account) (by : Float) (x : Account) → by ≡ getD fades i f1 → x ≡ getD l i noAccount → bookBy f i by x ≡ bookBy f i (getD fades i f1) (getD l i noAccount)
-one fades f i l by x p q = rw (p, q) refl
+account-in-requires : tie.Need-account-in-requires
+account-in-requires c κs = search needs
 
-module _ (fades : List Float) (f : Frame) (n i : ℕ) (l : List Account) where
-  -- one rung
-  turn : i < n → (z : Account) → z ≡ bookBy f i (getD fades i f1) (getD l i noAccount) → booksBy (n - (i + 1)) (i + 1) fades f (set l i z) ≡ booksBy (n - i) i fades f l
-  unfolding booksBy
-  turn h z e =
-      let m = n - (i + 1) in
-      let q : n - i ≡ suc m = omega arith in
-      rw (e, q, add-one i) refl
+rungs-of-requires : tie.Need-rungs-of-requires
+rungs-of-requires c κs = search needs
 
-  done : n ≤ i → l ≡ booksBy (n - i) i fades f l
-  unfolding booksBy
-  done h = let q : n - i ≡ 0 = omega arith in rw q refl
+cast-age : tie.Need-cast-age
+cast-age c = search needs
 
-abbrev Inv-loop : tie.InvT-loop
-Inv-loop count f fades accounts₀ rungs i₀ accounts i = (i ≤ min 32 count) × (length accounts ≡ 32) × (booksBy (min 32 count - i) i fades f accounts ≡ booksBy (min 32 count) 0 fades f accounts₀)
+mul-age : tie.Need-mul-age
+mul-age c = search needs
 
-abbrev μ-loop : tie.MeasureT-loop
-μ-loop count f fades accounts₀ rungs i₀ accounts i = min 32 count - i
+age-requires : tie.Need-age-requires
+age-requires c κs = search needs
 
-rungs-in-requires : tie.Need-rungs-in-requires Inv-loop μ-loop
-rungs-in-requires c κs = search needs
+age-account-requires : tie.Need-age-account-requires
+age-account-requires c κs = search needs
 
-loop-holds : tie.Need-loop-holds Inv-loop μ-loop
-loop-holds c =
-    let a = c .before .args in
-    let q : min 32 (a .count) - 0 ≡ min 32 (a .count) = omega arith in
-    (omega arith, search (needs, of-parts), ap (λ (n : ℕ). booksBy n 0 (a .t1) (a .f) (a .old)) q)
+gain-frame-requires : tie.Need-gain-frame-requires
+gain-frame-requires c κs = search needs
 
-cast-at : tie.Need-cast-at Inv-loop μ-loop
-cast-at c = search needs
+put-account-requires : tie.Need-put-account-requires
+put-account-requires c κs = search needs
 
-mul-book-account : tie.Need-mul-book-account Inv-loop μ-loop
-mul-book-account c = search needs
+-- the numbers of all rungs in use
+all-aged : (c : tie.After-age)
+    → let a = c .before .before .before .before .before .before .before .before .args in
+    c .age .last .0 ≡ scaled (3 * min 32 (a .t .count)) 0 (a .fades .now) (a .books .now)
+all-aged c =
+    let a = c .before .before .before .before .before .before .before .before .args in
+    c .age .ensures ∙ ap (λ (n : ℕ). scaled (3 * n) 0 (a .fades .now) (a .books .now)) (c .before .before .rungs-of .ensures)
 
-array-read-book-account : tie.Need-array-read-book-account Inv-loop μ-loop
-array-read-book-account c = search needs
+same-length : tie.Need-same-length
+same-length c = search needs
 
-mul-book-account-2 : tie.Need-mul-book-account-2 Inv-loop μ-loop
-mul-book-account-2 c = search needs
+returns : tie.Need-returns
+returns c = λ rows front right.
+    let put = c .before .before in
+    let own = put .before .before .before in
+    let all = own .before .before .before .before .before in
+    let rungs = all .before .before in
+    let s = rungs .before .before .before .before .before .before in
+    let a = s .args in
+    put .put-account .ensures ∙ rw (put .before .gain-frame .ensures, own .age-account .ensures, rungs .before .account-in .ensures, all-aged all, ← own-fade) (books-own (record { rows = rows; front = front; air = a .t }) (a .f) (a .fades .now) (a .books .now) (search needs) right (omega arith))
 
-array-copy-out-book-account : tie.Need-array-copy-out-book-account Inv-loop μ-loop
-array-copy-out-book-account c = search needs
+same-length-2 : tie.Need-same-length-2
+same-length-2 c = search needs
 
-book-account-requires : tie.Need-book-account-requires Inv-loop μ-loop
-book-account-requires c κs = search needs
-
-mul-accounts : tie.Need-mul-accounts Inv-loop μ-loop
-mul-accounts c = search needs
-
-array-set-from-accounts : tie.Need-array-set-from-accounts Inv-loop μ-loop
-array-set-from-accounts c = search needs
-
-add-i : tie.Need-add-i Inv-loop μ-loop
-add-i c = search needs
-
-loop-less : tie.Need-loop-less Inv-loop μ-loop
-loop-less c = search needs
-
-loop-again : tie.Need-loop-again Inv-loop μ-loop
-loop-again c =
-    let s = c .before .before .before in
-    let a = s .before .before .args in
-    let i = s .loop .i in
-    let l = s .loop .accounts in
-    let long : length (a .t1) ≡ 32 = search needs in
-    let e : c .book-account .result ≡ bookBy (a .f) i (getD (a .t1) i f1) (getD l i noAccount) = c .book-account .ensures ∙ one (a .t1) (a .f) i l _ _ (inside (a .t1) i long _ f1 (omega arith)) (inside l i (s .loop .inv .1) _ noAccount (omega arith)) in
-    (omega arith, length-set l i _ ∙ s .loop .inv .1, turn (a .t1) (a .f) (min 32 (a .count)) i l (omega arith) _ e ∙ s .loop .inv .2)
-
-returns : tie.Need-returns Inv-loop μ-loop
-returns c = let s = c .before in let a = s .before .before .args in done (a .t1) (a .f) (min 32 (a .count)) (s .loop .i) (s .loop .accounts) (omega arith) ∙ s .loop .inv .2
+returns-2 : tie.Need-returns-2
+returns-2 c = λ rows front right.
+    let all = c .before .before .before .before in
+    let rungs = all .before .before in
+    let s = rungs .before .before .before .before .before .before in
+    let a = s .args in
+    ap accountsOf (all-aged all) ∙ books-others (record { rows = rows; front = front; air = a .t }) (a .f) (a .fades .now) (a .books .now) (search needs) right (omega arith)
 
 pub book-accounts-spec : {M : Type 1} → statement M
 book-accounts-spec =
     tie.close
     (tie.spec
-    Inv-loop
-    μ-loop
-    rungs-in-requires
-    loop-holds
-    cast-at
-    mul-book-account
-    array-read-book-account
-    mul-book-account-2
-    array-copy-out-book-account
-    book-account-requires
-    mul-accounts
-    array-set-from-accounts
-    add-i
-    loop-less
-    loop-again
-    returns)
+    account-in-requires
+    rungs-of-requires
+    cast-age
+    mul-age
+    age-requires
+    age-account-requires
+    gain-frame-requires
+    put-account-requires
+    same-length
+    returns
+    same-length-2
+    returns-2)

@@ -4,17 +4,14 @@ use borrow.Author.Needs.{needs}
 use Rattle.steps.proofs.echo.is_back_on_floor.Statement.{statement}
 use Rattle.steps.proofs.echo.is_back_on_floor.Tie as tie
 
-choice-of-requires : tie.Need-choice-of-requires
-choice-of-requires c κs = search needs
-
-is-floor-requires : tie.Need-is-floor-requires
-is-floor-requires c κs = search needs
+rung-in-requires : tie.Need-rung-in-requires
+rung-in-requires c κs = search needs
 
 returns : tie.Need-returns
-returns c = rw (c .is-floor .ensures, c .before .choice-of .ensures, c .before .before .if1 .taken) refl
+returns c = rw (c .before .before .rung-in .ensures, c .before .before .before .before .if1 .taken) refl
 
 returns-2 : tie.Need-returns-2
 returns-2 c = rw (c .if1 .left) refl
 
 pub is-back-on-floor-spec : {M : Type 1} → statement M
-is-back-on-floor-spec = tie.close (tie.spec choice-of-requires is-floor-requires returns returns-2)
+is-back-on-floor-spec = tie.close (tie.spec rung-in-requires returns returns-2)

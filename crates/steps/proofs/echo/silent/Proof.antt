@@ -1,6 +1,6 @@
 -- `steps::echo::silent` meets its contract: what was read is the definition's. Assumes nothing.
 use mathlib.Core.Path.{refl}
-use Rattle.steps.specs.Echo.{silent}
+use Rattle.rules.specs.Echo.{silent}
 use borrow.Author.Needs.{needs}
 use Rattle.steps.proofs.echo.silent.Statement.{statement}
 use Rattle.steps.proofs.echo.silent.Tie as tie
@@ -23,6 +23,4 @@ returns c =
     rw (c .with-place .ensures, c .before .with-trying .ensures, c .before .before .highest-from .ensures, c .before .before .before .less .ensures) refl
 
 pub silent-spec : {M : Type 1} → statement M
-silent-spec =
-    tie.close
-    (tie.spec less-requires highest-from-requires with-trying-requires with-place-requires returns)
+silent-spec = tie.close (tie.spec less-requires highest-from-requires with-trying-requires with-place-requires returns)

@@ -1,23 +1,40 @@
--- `rate::types::RateController::estimate` meets its contract: each arm is what `cond` picks where the test is as the arm found it. Assumes nothing.
-use mathlib.Core.Path.{refl}
-use Rattle.rate.specs.Reads.{estimateOf}
+-- `RateController::estimate` meets its contract: rated by its row and account, where it is in the table. Assumes nothing.
 use borrow.Author.Needs.{needs}
+use mathlib.Core.Path.{refl}
+use Rattle.account.proofs.Rates.{estimated}
+use Rattle.rate.specs.Reads.{estimateOf}
 use Rattle.rate.proofs.types.RateController.estimate.Statement.{statement}
 use Rattle.rate.proofs.types.RateController.estimate.Tie as tie
 
 in-table-requires : tie.Need-in-table-requires
 in-table-requires c κs = search needs
 
-estimate-at-requires : tie.Need-estimate-at-requires
-estimate-at-requires c κs = search needs
+row-of-requires : tie.Need-row-of-requires
+row-of-requires c κs = search needs
+
+account-of-requires : tie.Need-account-of-requires
+account-of-requires c κs = search needs
+
+estimate-by-requires : tie.Need-estimate-by-requires
+estimate-by-requires c κs = search needs
 
 returns : tie.Need-returns
 unfolding estimateOf
-returns c = rw (c .estimate-at .ensures, ← c .before .before .in-table .ensures, c .before .if1 .taken) refl
+returns c =
+    let a = c .before .before .before .before .before .before .before .before .before .args in
+    rw (c .estimate-by .ensures, c .before .account-of .ensures, c .before .before .row-of .ensures, ← estimated (a .self .table) (a .self .prices) (a .self .state) (a .mode .0), ← c .before .before .before .before .in-table .ensures, c .before .before .before .if1 .taken) refl
 
 returns-2 : tie.Need-returns-2
 unfolding estimateOf
 returns-2 c = rw (← c .before .in-table .ensures, c .if1 .left) refl
 
 pub estimate-spec : {M : Type 1} → statement M
-estimate-spec = tie.close (tie.spec in-table-requires estimate-at-requires returns returns-2)
+estimate-spec =
+    tie.close
+    (tie.spec
+    in-table-requires
+    row-of-requires
+    account-of-requires
+    estimate-by-requires
+    returns
+    returns-2)

@@ -1,35 +1,61 @@
--- `rate::types::RateController::observe_echo` meets its contract: the result is that of `step`, by the answer of the test. Assumes nothing.
-use mathlib.Core.Path.{_∙_}
-use Rattle.rate.proofs.ByKind.{echo-done, echo-refused}
+-- `RateController::observe_echo` meets its contract: what the call in place moved is put back. Assumes nothing.
 use borrow.Author.Needs.{needs}
+use mathlib.Core.Path.{_≡_, _∙_}
+use lib.ListN.{length}
+use Rattle.ladder.proofs.Arrays.{of-parts}
+use Rattle.steps.specs.bridges.Held.{laid}
+use Rattle.steps.proofs.Laid.{stands}
+use Rattle.rate.proofs.Framing.{echo-front}
 use Rattle.rate.proofs.types.RateController.observe_echo.Statement.{statement}
 use Rattle.rate.proofs.types.RateController.observe_echo.Tie as tie
 
-ok-echo-requires : tie.Need-ok-echo-requires
-ok-echo-requires c κs = search needs
+-- how long the table's arrays are
+rows-long : (c : tie.Start) → length (c .args .self .table .rows) ≡ 32
+rows-long c = search (needs, of-parts)
+
+front-long : (c : tie.Start) → length (c .args .self .table .front) ≡ 32
+front-long c = search (needs, of-parts)
+
+reals-of-requires : tie.Need-reals-of-requires
+reals-of-requires c κs = search needs
+
+wholes-of-requires : tie.Need-wholes-of-requires
+wholes-of-requires c κs = search needs
+
+books-of-requires : tie.Need-books-of-requires
+books-of-requires c κs = search needs
+
+slice-aggregate-observe-echo : tie.Need-slice-aggregate-observe-echo
+slice-aggregate-observe-echo c = search needs
+
+slice-aggregate-observe-echo-2 : tie.Need-slice-aggregate-observe-echo-2
+slice-aggregate-observe-echo-2 c = search needs
+
+slice-aggregate-observe-echo-3 : tie.Need-slice-aggregate-observe-echo-3
+slice-aggregate-observe-echo-3 c = search needs
 
 observe-echo-requires : tie.Need-observe-echo-requires
 observe-echo-requires c κs = search needs
 
-done-requires : tie.Need-done-requires
-done-requires c κs = search needs
-
-refused-requires : tie.Need-refused-requires
-refused-requires c κs = search needs
+answer-requires : tie.Need-answer-requires
+answer-requires c κs = search needs
 
 returns : tie.Need-returns
-returns c = let a = c .before .before .before .before .before .before .before .args in c .done .ensures ∙ echo-done (a .self) (a .share) (a .snr-db) (c .before .before .before .before .before .before .ok-echo .ensures) (c .before .observe-echo .ensures) (c .before .before .before .before .before .if1 .taken)
-
-returns-2 : tie.Need-returns-2
-returns-2 c = let a = c .before .before .before .args in c .refused .ensures ∙ echo-refused (a .self) (a .share) (a .snr-db) (c .before .before .ok-echo .ensures) (c .before .if1 .left)
+returns c =
+    let k = c .before .before .before .before .before .before .before .before .before .before .before .before .before .before .args .self in
+    let t : laid (k .table .air) (c .before .before .before .before .before .before .before .reals-of .result) (c .before .before .before .before .before .before .wholes-of .result) ≡ k .table = stands (k .table) _ _ (c .before .before .before .before .before .before .before .reals-of .ensures) (c .before .before .before .before .before .before .wholes-of .ensures) (rows-long (c .before .before .before .before .before .before .before .before .before .before .before .before .before .before)) (front-long (c .before .before .before .before .before .before .before .before .before .before .before .before .before .before)) in
+    c .answer .ensures ∙ echo-front k _ (c .before .before .before .before .before .books-of .result) t (c .before .before .before .before .before .books-of .ensures) (c .before .before .before .before .before .before .before .before .before .before .before .before .before .before .args .share) (c .before .before .before .before .before .before .before .before .before .before .before .before .before .before .args .snr-db) _ (c .before .observe-echo .ensures)
 
 pub observe-echo-spec : {M : Type 1} → statement M
 observe-echo-spec =
     tie.close
     (tie.spec
-    ok-echo-requires
+    reals-of-requires
+    wholes-of-requires
+    books-of-requires
+    slice-aggregate-observe-echo
+    slice-aggregate-observe-echo-2
+    slice-aggregate-observe-echo-3
     observe-echo-requires
-    done-requires
-    refused-requires
-    returns
-    returns-2)
+    answer-requires
+    returns)

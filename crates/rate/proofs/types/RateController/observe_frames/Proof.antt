@@ -6,28 +6,28 @@ use denote.Triple.Spec.{tripleOf}
 use denote.Triple.Table.{entered, cited}
 use Rattle.walk.proofs.Fold.{Plainly, of-struct}
 use Rattle.walk.proofs.TwoPasses.{Parts, Names, BeginC, PassC, BeginC′, PassC′, FinishC, passes-meet}
-use Rattle.steps.specs.Tally.{bookAll}
-use Rattle.steps.specs.Check.{checkAll}
-use Rattle.rate.specs.Frames.{beginPass, beginChecks, finishFrames}
+use Rattle.rules.specs.bridges.Tally.{bookAll}
+use Rattle.rules.specs.bridges.Check.{checkAll}
+use Rattle.rate.specs.bridges.Frames.{beginPass, beginChecks, finishFrames}
 use Rattle.rate.proofs.Passes.{passes-step}
 use Rattle.rate.proofs.Plain.{K, Z, Q, h}
-use Rattle.steps.proofs.types.Frame as F
-use Rattle.steps.proofs.check.Check as Ch
-use Rattle.steps.proofs.check.Check.Laws as Ch′
-use Rattle.steps.proofs.booking.Tally as Ta
-use Rattle.steps.proofs.booking.Tally.Laws as Ta′
+use Rattle.rules.proofs.types.Frame as F
+use Rattle.rules.proofs.check.Check as Ch
+use Rattle.rules.proofs.check.Check.Laws as Ch′
+use Rattle.rules.proofs.pass.Tally as Ta
+use Rattle.rules.proofs.pass.Tally.Laws as Ta′
 use Rattle.rate.proofs.frames.begin_checks.Symbol as begin-checks-def
 use Rattle.rate.proofs.frames.begin_checks.Symbol.{name as #rate·begin-checks}
 use Rattle.rate.proofs.frames.begin_checks.Met as begin-checks-thm
-use Rattle.steps.proofs.check.check_frames.Symbol as check-frames-def
-use Rattle.steps.proofs.check.check_frames.Symbol.{name as #steps·check-frames}
-use Rattle.steps.proofs.check.check_frames.Met as check-frames-thm
+use Rattle.rules.proofs.check.check_frames.Symbol as check-frames-def
+use Rattle.rules.proofs.check.check_frames.Symbol.{name as #rules·check-frames}
+use Rattle.rules.proofs.check.check_frames.Met as check-frames-thm
 use Rattle.rate.proofs.frames.begin_pass.Symbol as begin-pass-def
 use Rattle.rate.proofs.frames.begin_pass.Symbol.{name as #rate·begin-pass}
 use Rattle.rate.proofs.frames.begin_pass.Met as begin-pass-thm
-use Rattle.steps.proofs.booking.book_frames.Symbol as book-frames-def
-use Rattle.steps.proofs.booking.book_frames.Symbol.{name as #steps·book-frames}
-use Rattle.steps.proofs.booking.book_frames.Met as book-frames-thm
+use Rattle.rules.proofs.pass.book_frames.Symbol as book-frames-def
+use Rattle.rules.proofs.pass.book_frames.Symbol.{name as #rules·book-frames}
+use Rattle.rules.proofs.pass.book_frames.Met as book-frames-thm
 use Rattle.rate.proofs.frames.finish_frames.Symbol as finish-frames-def
 use Rattle.rate.proofs.frames.finish_frames.Symbol.{name as #rate·finish-frames}
 use Rattle.rate.proofs.frames.finish_frames.Met as finish-frames-thm
@@ -55,7 +55,7 @@ X = record {
 }
 
 abbrev N : Names
-N = record { n₁ = #rate·begin-checks; n₂ = #steps·check-frames; n₃ = #rate·begin-pass; n₄ = #steps·book-frames; n₅ = #rate·finish-frames }
+N = record { n₁ = #rate·begin-checks; n₂ = #rules·check-frames; n₃ = #rate·begin-pass; n₄ = #rules·book-frames; n₅ = #rate·finish-frames }
 
 pub observe-frames-spec : {M : Type 1} → stated.statement M
 unfolding code.routine tablesOf
@@ -64,8 +64,8 @@ observe-frames-spec 𝓤 H 𝓜 𝓖 𝓡 =
     (tables 𝓤 H 𝓜 𝓡 code.env .C) (tables 𝓤 H 𝓜 𝓡 code.env .Λ) #rate·observe-frames code.function (code.unfolded 𝓤 H 𝓜 𝓡)
     (passes-meet K Z C Y Q F.the-type X N 𝓤 H (𝓖 .A) (givenOf 𝓤 H 𝓜 𝓖) (tablesOf 𝓤 H 𝓜 (tables 𝓤 H 𝓜 𝓡 code.env)) (record {
       t₁ = cited 𝓤 H (BeginC K Z C Y Q F.the-type X 𝓤 H (𝓖 .A)) 𝓜 𝓡 code.env #rate·begin-checks begin-checks-def.routine code.calls-rate·frames·begin-checks (begin-checks-thm.met 𝓤 H 𝓜 𝓖 𝓡);
-      t₂ = cited 𝓤 H (PassC K Z C Y Q F.the-type X 𝓤 H (𝓖 .A)) 𝓜 𝓡 code.env #steps·check-frames check-frames-def.routine code.calls-steps·check·check-frames (check-frames-thm.met 𝓤 H 𝓜 𝓖 𝓡);
+      t₂ = cited 𝓤 H (PassC K Z C Y Q F.the-type X 𝓤 H (𝓖 .A)) 𝓜 𝓡 code.env #rules·check-frames check-frames-def.routine code.calls-rules·check·check-frames (check-frames-thm.met 𝓤 H 𝓜 𝓖 𝓡);
       t₃ = cited 𝓤 H (BeginC′ K Z C Y Q F.the-type X 𝓤 H (𝓖 .A)) 𝓜 𝓡 code.env #rate·begin-pass begin-pass-def.routine code.calls-rate·frames·begin-pass (begin-pass-thm.met 𝓤 H 𝓜 𝓖 𝓡);
-      t₄ = cited 𝓤 H (PassC′ K Z C Y Q F.the-type X 𝓤 H (𝓖 .A)) 𝓜 𝓡 code.env #steps·book-frames book-frames-def.routine code.calls-steps·booking·book-frames (book-frames-thm.met 𝓤 H 𝓜 𝓖 𝓡);
+      t₄ = cited 𝓤 H (PassC′ K Z C Y Q F.the-type X 𝓤 H (𝓖 .A)) 𝓜 𝓡 code.env #rules·book-frames book-frames-def.routine code.calls-rules·pass·book-frames (book-frames-thm.met 𝓤 H 𝓜 𝓖 𝓡);
       t₅ = cited 𝓤 H (FinishC K Z C Y Q F.the-type X 𝓤 H (𝓖 .A)) 𝓜 𝓡 code.env #rate·finish-frames finish-frames-def.routine code.calls-rate·frames·finish-frames (finish-frames-thm.met 𝓤 H 𝓜 𝓖 𝓡);
     }))

@@ -1,29 +1,61 @@
--- `rate::types::RateController::seed` meets its contract: the result is that of `step`, by the answer of the test. Assumes nothing.
-use mathlib.Core.Path.{_∙_}
-use Rattle.rate.proofs.ByKind.{seed-done, seed-refused}
+-- `RateController::seed` meets its contract: what the call in place moved is put back. Assumes nothing.
 use borrow.Author.Needs.{needs}
+use mathlib.Core.Path.{_≡_, _∙_}
+use lib.ListN.{length}
+use Rattle.ladder.proofs.Arrays.{of-parts}
+use Rattle.steps.specs.bridges.Held.{laid}
+use Rattle.steps.proofs.Laid.{stands}
+use Rattle.rate.proofs.Framing.{seed-front}
 use Rattle.rate.proofs.types.RateController.seed.Statement.{statement}
 use Rattle.rate.proofs.types.RateController.seed.Tie as tie
 
-ok-db-requires : tie.Need-ok-db-requires
-ok-db-requires c κs = search needs
+-- how long the table's arrays are
+rows-long : (c : tie.Start) → length (c .args .self .table .rows) ≡ 32
+rows-long c = search (needs, of-parts)
+
+front-long : (c : tie.Start) → length (c .args .self .table .front) ≡ 32
+front-long c = search (needs, of-parts)
+
+reals-of-requires : tie.Need-reals-of-requires
+reals-of-requires c κs = search needs
+
+wholes-of-requires : tie.Need-wholes-of-requires
+wholes-of-requires c κs = search needs
+
+books-of-requires : tie.Need-books-of-requires
+books-of-requires c κs = search needs
+
+slice-aggregate-seed : tie.Need-slice-aggregate-seed
+slice-aggregate-seed c = search needs
+
+slice-aggregate-seed-2 : tie.Need-slice-aggregate-seed-2
+slice-aggregate-seed-2 c = search needs
+
+slice-aggregate-seed-3 : tie.Need-slice-aggregate-seed-3
+slice-aggregate-seed-3 c = search needs
 
 seed-requires : tie.Need-seed-requires
 seed-requires c κs = search needs
 
-done-requires : tie.Need-done-requires
-done-requires c κs = search needs
-
-refused-requires : tie.Need-refused-requires
-refused-requires c κs = search needs
+answer-requires : tie.Need-answer-requires
+answer-requires c κs = search needs
 
 returns : tie.Need-returns
-returns c = let a = c .before .before .before .before .before .before .before .args in c .done .ensures ∙ seed-done (a .self) (a .snr-db) (c .before .before .before .before .before .before .ok-db .ensures) (c .before .seed .ensures) (c .before .before .before .before .before .if1 .taken)
-
-returns-2 : tie.Need-returns-2
-returns-2 c = let a = c .before .before .before .args in c .refused .ensures ∙ seed-refused (a .self) (a .snr-db) (c .before .before .ok-db .ensures) (c .before .if1 .left)
+returns c =
+    let k = c .before .before .before .before .before .before .before .before .before .before .before .before .before .before .args .self in
+    let t : laid (k .table .air) (c .before .before .before .before .before .before .before .reals-of .result) (c .before .before .before .before .before .before .wholes-of .result) ≡ k .table = stands (k .table) _ _ (c .before .before .before .before .before .before .before .reals-of .ensures) (c .before .before .before .before .before .before .wholes-of .ensures) (rows-long (c .before .before .before .before .before .before .before .before .before .before .before .before .before .before)) (front-long (c .before .before .before .before .before .before .before .before .before .before .before .before .before .before)) in
+    c .answer .ensures ∙ seed-front k _ (c .before .before .before .before .before .books-of .result) t (c .before .before .before .before .before .books-of .ensures) (c .before .before .before .before .before .before .before .before .before .before .before .before .before .before .args .snr-db) _ (c .before .seed .ensures)
 
 pub seed-spec : {M : Type 1} → statement M
 seed-spec =
     tie.close
-    (tie.spec ok-db-requires seed-requires done-requires refused-requires returns returns-2)
+    (tie.spec
+    reals-of-requires
+    wholes-of-requires
+    books-of-requires
+    slice-aggregate-seed
+    slice-aggregate-seed-2
+    slice-aggregate-seed-3
+    seed-requires
+    answer-requires
+    returns)

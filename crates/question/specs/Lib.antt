@@ -1,0 +1,4 @@
+pub mod Over
+pub mod Bytes
+pub mod Body
+pub mod File

@@ -1,0 +1,14 @@
+-- `rate::inplace::done` meets its contract: the mark is the one that was asked for. Assumes nothing.
+use mathlib.Core.Path.{refl}
+use borrow.Author.Needs.{needs}
+use Rattle.rate.proofs.inplace.done.Statement.{statement}
+use Rattle.rate.proofs.inplace.done.Tie as tie
+
+was-ended-requires : tie.Need-was-ended-requires
+was-ended-requires c κs = search needs
+
+returns : tie.Need-returns
+returns c = rw (c .was-ended .ensures) refl
+
+pub done-spec : {M : Type 1} → statement M
+done-spec = tie.close (tie.spec was-ended-requires returns)

@@ -1,0 +1,71 @@
+-- `RateController::refuses` meets its contract: a floor rung is never refused, and all others are as one. Assumes nothing.
+use borrow.Author.Needs.{needs}
+use mathlib.Core.Path.{_≡_, refl, sym, ap, _∙_}
+use mathlib.Core.Bool.{Bool, false}
+use Prim.Native.Nat.{ℕ}
+use lib.Dec.{ltb}
+use native.Mathlib.Omega.{arith}
+use borrow.Author.Tests.{le-ltb}
+use lib.ListN.{length}
+use Rattle.ladder.proofs.Arrays.{of-parts}
+use Rattle.ladder.specs.declared.types.Table.{Table}
+use Rattle.account.specs.declared.types.State.{State}
+use Rattle.steps.specs.bridges.Held.{laid, bare}
+use Rattle.steps.proofs.Laid.{stands}
+use Rattle.rules.specs.Echo.{allOut, refuses}
+use Rattle.rate.proofs.types.RateController.refuses.Statement.{statement}
+use Rattle.rate.proofs.types.RateController.refuses.Tie as tie
+
+-- how long the table's arrays are
+rows-long : (c : tie.Start) → length (c .args .self .table .rows) ≡ 32
+rows-long c = search (needs, of-parts)
+
+front-long : (c : tie.Start) → length (c .args .self .table .front) ≡ 32
+front-long c = search (needs, of-parts)
+
+is-floor-requires : tie.Need-is-floor-requires
+is-floor-requires c κs = search needs
+
+returns : tie.Need-returns
+unfolding refuses
+returns c = rw (← c .before .is-floor .ensures, c .if1 .taken) refl
+
+reals-of-requires : tie.Need-reals-of-requires
+reals-of-requires c κs = search needs
+
+wholes-of-requires : tie.Need-wholes-of-requires
+wholes-of-requires c κs = search needs
+
+slice-aggregate-refuses-ofdm : tie.Need-slice-aggregate-refuses-ofdm
+slice-aggregate-refuses-ofdm c = search needs
+
+slice-aggregate-refuses-ofdm-2 : tie.Need-slice-aggregate-refuses-ofdm-2
+slice-aggregate-refuses-ofdm-2 c = search needs
+
+refuses-ofdm-requires : tie.Need-refuses-ofdm-requires
+refuses-ofdm-requires c κs = search needs
+
+-- of all OFDM rungs one answer is right, and the floor count is one of them
+refused-by : (t k : Table) (s : State) (r : ℕ) (b : Bool) → t ≡ k → b ≡ refuses t (bare (s .core)) (t .air .floors) → ltb r (k .air .floors) ≡ false → b ≡ refuses k s r
+unfolding refuses allOut
+refused-by t k s r b e f g =
+    f ∙ ap (λ (x : Table). refuses x (bare (s .core)) (x .air .floors)) e ∙ rw (g, le-ltb (k .air .floors) (k .air .floors) (omega arith)) refl
+
+returns-2 : tie.Need-returns-2
+returns-2 c =
+    let k = c .before .before .before .before .before .before .before .before .before .before .before .args .self in
+    let t : laid (k .table .air) (c .before .before .before .before .reals-of .result) (c .before .before .before .wholes-of .result) ≡ k .table = stands (k .table) _ _ (c .before .before .before .before .reals-of .ensures) (c .before .before .before .wholes-of .ensures) (rows-long (c .before .before .before .before .before .before .before .before .before .before .before)) (front-long (c .before .before .before .before .before .before .before .before .before .before .before)) in
+    refused-by _ (k .table) (k .state) (c .before .before .before .before .before .before .before .before .before .before .before .args .mode .0) (c .refuses-ofdm .result) t (c .refuses-ofdm .ensures) (sym (c .before .before .before .before .before .before .before .is-floor .ensures) ∙ c .before .before .before .before .before .before .if1 .left)
+
+pub refuses-spec : {M : Type 1} → statement M
+refuses-spec =
+    tie.close
+    (tie.spec
+    is-floor-requires
+    returns
+    reals-of-requires
+    wholes-of-requires
+    slice-aggregate-refuses-ofdm
+    slice-aggregate-refuses-ofdm-2
+    refuses-ofdm-requires
+    returns-2)

@@ -1,0 +1,12 @@
+pub mod Usable
+pub mod Walks
+pub mod Ranges
+pub mod Greatest
+pub mod Set
+pub mod LowestFound
+pub mod Trying
+pub mod Clock
+pub mod Calm
+pub mod Fade
+pub mod Tally
+pub mod FirstBad
