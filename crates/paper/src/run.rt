@@ -65,8 +65,9 @@ pub(crate) fn run(file: &[u8], log: &mut [u32])
 {
     let table = table_of(air(file));
     let t = table.air;
-    let reals = steps::read::reals_of(table);
-    let wholes = steps::read::wholes_of(table);
+    let n = steps::read::numbers_of(table);
+    let reals = n.reals;
+    let wholes = n.wholes;
     let mut fades = [0.0f64; 96];
     let mut books = [0.0f64; 96];
     let mut since = [0.0f64; 32];

@@ -8,8 +8,7 @@ use account::types::Families;
 use account::types::Prices;
 use limits::reading::Reading;
 use steps::read::books_of;
-use steps::read::reals_of;
-use steps::read::wholes_of;
+use steps::read::numbers_of;
 
 // A controller is laid out as slices, the call is made in place, and what it moved is put together again.
 impl RateController {
@@ -38,8 +37,9 @@ impl RateController {
         let s = self.state;
         let air = t.air;
         let c = s.core;
-        let reals = reals_of(t);
-        let wholes = wholes_of(t);
+        let n = numbers_of(t);
+        let reals = n.reals;
+        let wholes = n.wholes;
         let m = crate::inplace::silent(air, p, &reals, &wholes, c, steps);
         answer(self, m)
     }
@@ -54,8 +54,9 @@ impl RateController {
         let air = t.air;
         let c = s.core;
         let accounts = s.accounts;
-        let reals = reals_of(t);
-        let wholes = wholes_of(t);
+        let n = numbers_of(t);
+        let reals = n.reals;
+        let wholes = n.wholes;
         let books = books_of(accounts);
         let m = crate::inplace::seed(air, p, &reals, &wholes, &books, c, snr_db);
         answer(self, m)
@@ -71,8 +72,9 @@ impl RateController {
         let air = t.air;
         let c = s.core;
         let accounts = s.accounts;
-        let reals = reals_of(t);
-        let wholes = wholes_of(t);
+        let n = numbers_of(t);
+        let reals = n.reals;
+        let wholes = n.wholes;
         let books = books_of(accounts);
         let m = crate::inplace::observe_echo(air, p, &reals, &wholes, &books, c, share, snr_db);
         answer(self, m)

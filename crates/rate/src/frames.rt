@@ -21,8 +21,7 @@ use rules::check::Check;
 use rules::pass::Tally;
 use rules::types::Frame;
 use steps::read::books_of;
-use steps::read::reals_of;
-use steps::read::wholes_of;
+use steps::read::numbers_of;
 use steps::types::Pass;
 
 // The longest list that is accepted.
@@ -96,8 +95,9 @@ fn transmit(k: RateController, y: Tally, snr: Reading) -> Answer
     let before = old.trying;
     let air = t.air;
     let accounts = y.accounts;
-    let reals = reals_of(t);
-    let wholes = wholes_of(t);
+    let n = numbers_of(t);
+    let reals = n.reals;
+    let wholes = n.wholes;
     let books = books_of(accounts);
     let mut since = s.since;
     let mut wait = s.wait;

@@ -16,8 +16,7 @@ use ladder::types::Rung;
 use limits::reading::Reading;
 use limits::refusal::Refusal;
 use steps::read::books_of;
-use steps::read::reals_of;
-use steps::read::wholes_of;
+use steps::read::numbers_of;
 
 impl RateController {
     // The families last set.
@@ -39,8 +38,9 @@ impl RateController {
             return false;
         }
         let c = s.core;
-        let reals = reals_of(t);
-        let wholes = wholes_of(t);
+        let n = numbers_of(t);
+        let reals = n.reals;
+        let wholes = n.wholes;
         steps::echo::refuses_ofdm(air, &reals, &wholes, c)
     }
 
@@ -207,8 +207,9 @@ impl RateController {
             let air = t.air;
             let c = s.core;
             let accounts = s.accounts;
-            let reals = reals_of(t);
-            let wholes = wholes_of(t);
+            let n = numbers_of(t);
+            let reals = n.reals;
+            let wholes = n.wholes;
             let books = books_of(accounts);
             let i = steps::echo::first_place(air, p, &reals, &wholes, &books, c, snr_db);
             First::At(ladder::read::rung_at(t, Place(i)))

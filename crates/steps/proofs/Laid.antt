@@ -18,7 +18,7 @@ use Rattle.ladder.specs.declared.types.Table.{Table}
 use Rattle.ladder.specs.Lists.{tabulate}
 use Rattle.ladder.specs.Types.{rung, noRow, row}
 use Rattle.ladder.proofs.Tabulating.{tabulate-at}
-use Rattle.steps.specs.bridges.Held.{limitOf, rowOf, rowsIn, frontIn, laid, mark, bound, RealsAt, RealsOf, WholesAt, WholesOf}
+use Rattle.steps.specs.bridges.Held.{limitOf, rowOf, rowsIn, frontIn, laid, mark, bound}
 use Rattle.steps.proofs.Three.{three, three-first, three-second, three-third, three-other}
 
 tabulate-length : {A : Type 0} (n i : ℕ) (f : ℕ → A) → length (tabulate n i f) ≡ n
@@ -45,11 +45,23 @@ module _ (wholes : List ℕ) where
   front-at i h = tabulate-at 32 0 (λ i. rung (getD wholes i 0)) i (rung 0) h ∙ ap (λ (k : ℕ). rung (getD wholes k 0)) (zero-add i)
 
 -- ---- a table is the one that its slices stand for
+-- the reals of a rung
+pub record RealsAt (rows : List Row) (reals : List Float) (r : ℕ) : Type 0 where
+  pub threshold : getD reals (3 * r) f0 ≡ getD rows r noRow .threshold
+  pub time : getD reals (3 * r + 1) f1 ≡ getD rows r noRow .time
+  pub limit : getD reals (3 * r + 2) f0 ≡ bound (getD rows r noRow .limit)
+
+-- the whole numbers at a place and of a rung
+pub record WholesAt (rows : List Row) (front : List Rung) (wholes : List ℕ) (r : ℕ) : Type 0 where
+  pub rung-there : getD wholes r 0 ≡ getD front r (rung 0) .0
+  pub capacity : getD wholes (32 + r) 0 ≡ getD rows r noRow .capacity
+  pub limited : getD wholes (64 + r) 0 ≡ mark (getD rows r noRow .limit)
+
 limit-back : (l : Reading) → limitOf (mark l) (bound l) ≡ l
 limit-back Missing = refl
 limit-back (Value x) = refl
 
-module _ (t : Table) (reals : List Float) (wholes : List ℕ) (x : RealsOf t reals) (w : WholesOf t wholes) where
+module _ (t : Table) (reals : List Float) (wholes : List ℕ) (x : (r : ℕ) → r < 32 → RealsAt (t .rows) reals r) (w : (r : ℕ) → r < 32 → WholesAt (t .rows) (t .front) wholes r) where
   row-back : (r : ℕ) → r < 32 → rowOf reals wholes r ≡ row t r
   row-back r h =
       rw (x r h .threshold, x r h .time, x r h .limit, w r h .capacity, w r h .limited) (ap (λ (l : Reading). record { threshold = row t r .threshold; capacity = row t r .capacity; time = row t r .time; limit = l }) (limit-back (row t r .limit)))

@@ -6,7 +6,8 @@ ghost use Rattle.ladder.specs.Types.{noRow};
 ghost use Rattle.account.specs.State.{noAccount};
 ghost use Rattle.account.specs.Price.{burstOr, value, losslessPrice};
 ghost use Rattle.rules.specs.Echo.{over};
-ghost use Rattle.steps.specs.bridges.Held.{Lent, RealsOf, WholesOf, mark, bound, limitOf, rowsIn, rungIn, laid, accountsOf, rated};
+ghost use Rattle.steps.specs.bridges.Held.{Lent, mark, bound, limitOf, rowsIn, rungIn, laid, accountsOf, rated};
+use crate::types::Numbers;
 use account::types::Account;
 use account::types::Core;
 use account::types::Prices;
@@ -38,38 +39,26 @@ fn bound_of(limit: Reading) -> f64
     }
 }
 
-// A table's reals, three a rung: threshold, frame time, echo limit.
-pub fn reals_of(t: Table) -> [f64; 96]
-    ensures { λ r. ⌜ RealsOf t r ⌝ }
+// A table's numbers.
+pub fn numbers_of(t: Table) -> Numbers
+    ensures { λ n. ⌜ laid (t .air) (n .reals) (n .wholes) ≡ t ⌝ }
 {
     let rows = t.rows;
+    let front = t.front;
     let mut reals = [0.0f64; 96];
+    let mut wholes = [0u32; 96];
     for i in 0..32 {
         let row = rows[i];
         let limit = row.limit;
         reals[3 * i] = row.threshold;
         reals[3 * i + 1] = row.time;
         reals[3 * i + 2] = bound_of(limit);
-    }
-    reals
-}
-
-// A table's whole numbers: the front's rungs by place, then the capacities by rung, then a 1 for each rung that has an echo limit.
-pub fn wholes_of(t: Table) -> [u32; 96]
-    ensures { λ r. ⌜ WholesOf t r ⌝ }
-{
-    let rows = t.rows;
-    let front = t.front;
-    let mut wholes = [0u32; 96];
-    for i in 0..32 {
-        let row = rows[i];
-        let limit = row.limit;
         let r = front[i];
         wholes[i] = r.0;
         wholes[32 + i] = row.capacity;
         wholes[64 + i] = mark_of(limit);
     }
-    wholes
+    Numbers { reals, wholes }
 }
 
 // Accounts as numbers, three a rung: decayed bytes, seconds of air and frames.

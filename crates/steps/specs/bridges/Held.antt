@@ -3,7 +3,7 @@
 use mathlib.Core.Path.{_≡_}
 use mathlib.Core.Bool.{cond}
 use mathlib.Core.List.{List, [], _∷_}
-use Prim.Native.Nat.{ℕ, _+_, _*_, _<_}
+use Prim.Native.Nat.{ℕ, _+_, _*_}
 use lib.Dec.{eqb}
 use lib.ListN.{length, getD}
 use lib.Ieee.{Float}
@@ -54,7 +54,7 @@ pub record Lent (reals : List Float) (wholes : List ℕ) : Type 0 where
   pub of-reals : length reals ≡ 96
   pub of-wholes : length wholes ≡ 96
 
--- ---- the slices of a table, of which it is the one that they stand for (proofs/Laid.antt)
+-- an echo limit as a mark and a number
 abbrev pub mark : Reading → ℕ
 mark Missing = 0
 mark (Value x) = 1
@@ -62,24 +62,6 @@ mark (Value x) = 1
 abbrev pub bound : Reading → Float
 bound Missing = f0
 bound (Value x) = x
-
--- the reals of a rung, and of all rungs
-pub record RealsAt (rows : List Row) (reals : List Float) (r : ℕ) : Type 0 where
-  pub threshold : getD reals (3 * r) f0 ≡ getD rows r noRow .threshold
-  pub time : getD reals (3 * r + 1) f1 ≡ getD rows r noRow .time
-  pub limit : getD reals (3 * r + 2) f0 ≡ bound (getD rows r noRow .limit)
-
-abbrev pub RealsOf : Table → List Float → Type 0
-RealsOf t reals = (r : ℕ) → r < 32 → RealsAt (t .rows) reals r
-
--- the whole numbers at a place and of a rung, and all of them
-pub record WholesAt (rows : List Row) (front : List Rung) (wholes : List ℕ) (r : ℕ) : Type 0 where
-  pub rung-there : getD wholes r 0 ≡ getD front r (rung 0) .0
-  pub capacity : getD wholes (32 + r) 0 ≡ getD rows r noRow .capacity
-  pub limited : getD wholes (64 + r) 0 ≡ mark (getD rows r noRow .limit)
-
-abbrev pub WholesOf : Table → List ℕ → Type 0
-WholesOf t wholes = (r : ℕ) → r < 32 → WholesAt (t .rows) (t .front) wholes r
 
 -- ---- the state
 -- three numbers a rung: decayed bytes, seconds of air and frames

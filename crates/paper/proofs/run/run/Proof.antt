@@ -8,9 +8,7 @@ use native.Mathlib.Omega.{arith}
 use borrow.Author.Tests.{not-true, not-false}
 use lib.ListN.{length, replicate}
 use Rattle.float.specs.Numbers.{f0}
-use Rattle.ladder.proofs.Arrays.{of-parts}
 use Rattle.steps.specs.bridges.Held.{laid}
-use Rattle.steps.proofs.Laid.{stands}
 use Rattle.rate.specs.bridges.Playing.{playing}
 use Rattle.steps.specs.bridges.Pass.{Kept}
 use Rattle.question.specs.File.{eventCount}
@@ -47,11 +45,8 @@ air-requires c κs = search needs
 table-of-requires : tie.Need-table-of-requires Inv-loop μ-loop
 table-of-requires c κs = search needs
 
-reals-of-requires : tie.Need-reals-of-requires Inv-loop μ-loop
-reals-of-requires c κs = search needs
-
-wholes-of-requires : tie.Need-wholes-of-requires Inv-loop μ-loop
-wholes-of-requires c κs = search needs
+numbers-of-requires : tie.Need-numbers-of-requires Inv-loop μ-loop
+numbers-of-requires c κs = search needs
 
 fresh-core-requires : tie.Need-fresh-core-requires Inv-loop μ-loop
 fresh-core-requires c κs = search needs
@@ -59,20 +54,10 @@ fresh-core-requires c κs = search needs
 unpriced-prices-requires : tie.Need-unpriced-prices-requires Inv-loop μ-loop
 unpriced-prices-requires c κs = search needs
 
--- how long the table's arrays are, and that it is the table that its slices stand for
-rows-long : (c : tie.After-table-of Inv-loop μ-loop) → length (c .table-of .result .rows) ≡ 32
-rows-long c = search (needs, of-parts)
-
-front-long : (c : tie.After-table-of Inv-loop μ-loop) → length (c .table-of .result .front) ≡ 32
-front-long c = search (needs, of-parts)
-
-lies : (c : tie.After-wholes-of Inv-loop μ-loop) → laid (c .before .before .before .table-of .result .air) (c .before .reals-of .result) (c .wholes-of .result) ≡ c .before .before .before .table-of .result
-lies c = stands (c .before .before .before .table-of .result) _ _ (c .before .reals-of .ensures) (c .wholes-of .ensures) (rows-long (c .before .before .before)) (front-long (c .before .before .before))
-
 loop-holds : tie.Need-loop-holds Inv-loop μ-loop
 loop-holds c =
-    let file = c .before .before .before .before .before .before .before .before .before .args .file .now in
-    let e = outcomes-start file _ _ (c .before .before .before .before .before .before .air .ensures) (first-playing _ _ (c .unpriced-prices .result) (c .before .fresh-core .result) (lies (c .before .before) ∙ c .before .before .before .before .before .table-of .ensures) (c .unpriced-prices .ensures) (c .before .fresh-core .ensures)) in (
+    let file = c .before .before .before .before .before .before .before .before .before .before .args .file .now in
+    let e = outcomes-start file _ _ (c .before .before .before .before .before .before .before .air .ensures) (first-playing _ _ (c .unpriced-prices .result) (c .before .fresh-core .result) (c .before .before .before .before .numbers-of .ensures ∙ c .before .before .before .before .before .before .table-of .ensures) (c .unpriced-prices .ensures) (c .before .fresh-core .ensures)) in (
       search needs,
       refl,
       rw e (partly-start _ _),
@@ -80,7 +65,7 @@ loop-holds c =
       refl,
       refl,
       refl,
-      none-kept (laid (c .before .before .before .before .before .table-of .result .air) (c .before .before .before .reals-of .result) (c .before .before .wholes-of .result)) (replicate 96 f0),
+      none-kept (laid (c .before .before .before .before .before .before .table-of .result .air) (c .before .before .before .before .numbers-of .result .reals) (c .before .before .before .before .numbers-of .result .wholes)) (replicate 96 f0),
     )
 
 read-end-requires : tie.Need-read-end-requires Inv-loop μ-loop
@@ -90,21 +75,21 @@ read-body-requires : tie.Need-read-body-requires Inv-loop μ-loop
 read-body-requires c κs = search needs
 
 -- an event is left, and the count is a u32
-less : (c : tie.After-read-body Inv-loop μ-loop) → (c .before .before .before .loop .i < eventCount (c .before .before .before .before .before .before .before .before .before .before .before .before .before .args .file .now)) × (eventCount (c .before .before .before .before .before .before .before .before .before .before .before .before .before .args .file .now) < 4294967296)
+less : (c : tie.After-read-body Inv-loop μ-loop) → (c .before .before .before .loop .i < eventCount (c .before .before .before .before .before .before .before .before .before .before .before .before .before .before .args .file .now)) × (eventCount (c .before .before .before .before .before .before .before .before .before .before .before .before .before .before .args .file .now) < 4294967296)
 less c = (before-end _ _ _ (c .before .before .read-end .ensures .0) (not-true _ (c .before .if1 .taken)), c .before .before .read-end .ensures .1)
 
 -- how long the two arrays are that are only read
-reals-long : (c : tie.After-reals-of Inv-loop μ-loop) → length (c .reals-of .result) ≡ 96
+reals-long : (c : tie.After-numbers-of Inv-loop μ-loop) → length (c .numbers-of .result .reals) ≡ 96
 reals-long c = search needs
 
-wholes-long : (c : tie.After-wholes-of Inv-loop μ-loop) → length (c .wholes-of .result) ≡ 96
+wholes-long : (c : tie.After-numbers-of Inv-loop μ-loop) → length (c .numbers-of .result .wholes) ≡ 96
 wholes-long c = search needs
 
 slice-aggregate-play-event : tie.Need-slice-aggregate-play-event Inv-loop μ-loop
-slice-aggregate-play-event c = sym (reals-long (c .before .before .before .before .before .before .before .before))
+slice-aggregate-play-event c = sym (reals-long (c .before .before .before .before .before .before .before .before .before))
 
 slice-aggregate-play-event-2 : tie.Need-slice-aggregate-play-event-2 Inv-loop μ-loop
-slice-aggregate-play-event-2 c = sym (wholes-long (c .before .before .before .before .before .before .before .before))
+slice-aggregate-play-event-2 c = sym (wholes-long (c .before .before .before .before .before .before .before .before .before .before))
 
 slice-aggregate-play-event-3 : tie.Need-slice-aggregate-play-event-3 Inv-loop μ-loop
 slice-aggregate-play-event-3 c = sym (c .before .before .before .before .before .before .loop .inv .3)
@@ -121,16 +106,16 @@ slice-aggregate-play-event-6 c = sym (c .before .before .before .before .before 
 play-event-requires : tie.Need-play-event-requires Inv-loop μ-loop
 play-event-requires c κs =
     let v = c .before .before .before .before .before .before .before .before .before .loop .inv in
-    (record { of-reals = reals-long (c .before .before .before .before .before .before .before .before .before .before .before .before .before); of-wholes = wholes-long (c .before .before .before .before .before .before .before .before .before .before .before .before) }, (v .3, (record { of-books = v .4; of-since = v .5; of-wait = v .6 }, v .7)))
+    (record { of-reals = reals-long (c .before .before .before .before .before .before .before .before .before .before .before .before .before .before); of-wholes = wholes-long (c .before .before .before .before .before .before .before .before .before .before .before .before .before .before) }, (v .3, (record { of-books = v .4; of-since = v .5; of-wait = v .6 }, v .7)))
 
 slice-aggregate-line-of : tie.Need-slice-aggregate-line-of Inv-loop μ-loop
-slice-aggregate-line-of c = sym (reals-long (c .before .before .before .before .before .before .before .before .before .before .before .before .before .before .before .before .before .before .before .before))
+slice-aggregate-line-of c = sym (reals-long (c .before .before .before .before .before .before .before .before .before .before .before .before .before .before .before .before .before .before .before .before .before))
 
 slice-aggregate-line-of-2 : tie.Need-slice-aggregate-line-of-2 Inv-loop μ-loop
-slice-aggregate-line-of-2 c = sym (wholes-long (c .before .before .before .before .before .before .before .before .before .before .before .before .before .before .before .before .before .before .before .before))
+slice-aggregate-line-of-2 c = sym (wholes-long (c .before .before .before .before .before .before .before .before .before .before .before .before .before .before .before .before .before .before .before .before .before .before))
 
 line-of-requires : tie.Need-line-of-requires Inv-loop μ-loop
-line-of-requires c κs = record { of-reals = reals-long (c .before .before .before .before .before .before .before .before .before .before .before .before .before .before .before .before .before .before .before .before .before); of-wholes = wholes-long (c .before .before .before .before .before .before .before .before .before .before .before .before .before .before .before .before .before .before .before .before) }
+line-of-requires c κs = record { of-reals = reals-long (c .before .before .before .before .before .before .before .before .before .before .before .before .before .before .before .before .before .before .before .before .before .before); of-wholes = wholes-long (c .before .before .before .before .before .before .before .before .before .before .before .before .before .before .before .before .before .before .before .before .before .before) }
 
 outcome-of-requires : tie.Need-outcome-of-requires Inv-loop μ-loop
 outcome-of-requires c κs = search needs
@@ -148,7 +133,7 @@ part-put-outcome-end : tie.Need-part-put-outcome-end Inv-loop μ-loop
 part-put-outcome-end c = search needs
 
 put-outcome-requires : tie.Need-put-outcome-requires Inv-loop μ-loop
-put-outcome-requires c κs = omega (arith, partly-lent (c .before .before .before .before .before .before .before .before .before .before .before .before .before .before .before .before .before .before .before .before .loop .inv .2), less (c .before .before .before .before .before .before .before .before .before .before .before .before .before .before .before .before .before), c .before .before .before .before .before .before .before .before .before .before .before .before .before .before .before .before .before .before .before .before .loop .inv .1, c .before .before .before .before .before .before .before .before .before .before .before .before .before .before .before .before .before .before .before .before .before .before .before .before .before .before .before .before .before .before .pre)
+put-outcome-requires c κs = omega (arith, partly-lent (c .before .before .before .before .before .before .before .before .before .before .before .before .before .before .before .before .before .before .before .before .loop .inv .2), less (c .before .before .before .before .before .before .before .before .before .before .before .before .before .before .before .before .before), c .before .before .before .before .before .before .before .before .before .before .before .before .before .before .before .before .before .before .before .before .loop .inv .1, c .before .before .before .before .before .before .before .before .before .before .before .before .before .before .before .before .before .before .before .before .before .before .before .before .before .before .before .before .before .before .before .pre)
 
 add-at : tie.Need-add-at Inv-loop μ-loop
 add-at c = search (needs, less (c .before .before .before .before .before .before .before .before .before .before .before .before .before .before .before .before .before .before .before .before), c .before .before .before .before .before .before .before .before .before .before .before .before .before .before .before .before .before .before .before .before .before .before .before .loop .inv .1)
@@ -171,10 +156,10 @@ loop-again c =
     (let l = c .before .before .before .before .before .before .before .before .before .before .before .before .before .before .before .before .before .before .before .before .before .before .before .before .before .before .loop in
     let h = less (c .before .before .before .before .before .before .before .before .before .before .before .before .before .before .before .before .before .before .before .before .before .before .before) in
     let y = c .before .before .before .before .before .before .before .before .before .before .before .before .before .before .before .before .play-event in
-    let next = next-outcome (c .before .before .before .before .before .before .before .before .before .before .before .before .before .before .before .before .before .before .before .before .before .before .before .before .before .before .before .before .before .before .before .before .before .before .before .before .args .file .now) _ (l .i) (laid (c .before .before .before .before .before .before .before .before .before .before .before .before .before .before .before .before .before .before .before .before .before .before .before .before .before .before .before .before .before .before .before .before .table-of .result .air) (c .before .before .before .before .before .before .before .before .before .before .before .before .before .before .before .before .before .before .before .before .before .before .before .before .before .before .before .before .before .before .reals-of .result) (c .before .before .before .before .before .before .before .before .before .before .before .before .before .before .before .before .before .before .before .before .before .before .before .before .before .before .before .before .before .wholes-of .result)) (l .p) _ (l .books) (y .last .1 .1 .1 .1 .1 .0) (l .since) (y .last .1 .1 .1 .1 .1 .1 .0) (l .wait) (y .last .1 .1 .1 .1 .1 .1 .1 .0) (l .c) (y .result .moved) _ _ _ (h .0) (c .before .before .before .before .before .before .before .before .before .before .before .before .before .before .before .before .before .before .before .before .before .before .before .read-body .ensures) (y .ensures .0) (y .ensures .1 .0) (c .before .before .prices-after .ensures) (c .before .before .before .before .before .before .before .before .line-of .ensures) (c .before .before .before .before .before .before .before .outcome-of .ensures) in (
+    let next = next-outcome (c .before .before .before .before .before .before .before .before .before .before .before .before .before .before .before .before .before .before .before .before .before .before .before .before .before .before .before .before .before .before .before .before .before .before .before .before .before .args .file .now) _ (l .i) (laid (c .before .before .before .before .before .before .before .before .before .before .before .before .before .before .before .before .before .before .before .before .before .before .before .before .before .before .before .before .before .before .before .before .before .table-of .result .air) (c .before .before .before .before .before .before .before .before .before .before .before .before .before .before .before .before .before .before .before .before .before .before .before .before .before .before .before .before .before .before .before .numbers-of .result .reals) (c .before .before .before .before .before .before .before .before .before .before .before .before .before .before .before .before .before .before .before .before .before .before .before .before .before .before .before .before .before .before .before .numbers-of .result .wholes)) (l .p) _ (l .books) (y .last .1 .1 .1 .1 .1 .0) (l .since) (y .last .1 .1 .1 .1 .1 .1 .0) (l .wait) (y .last .1 .1 .1 .1 .1 .1 .1 .0) (l .c) (y .result .moved) _ _ _ (h .0) (c .before .before .before .before .before .before .before .before .before .before .before .before .before .before .before .before .before .before .before .before .before .before .before .read-body .ensures) (y .ensures .0) (y .ensures .1 .0) (c .before .before .prices-after .ensures) (c .before .before .before .before .before .before .before .before .line-of .ensures) (c .before .before .before .before .before .before .before .outcome-of .ensures) in (
       omega (arith, h),
       omega (arith, l .inv .1),
-      partly-next (l .inv .2) next (omega (arith, h, l .inv .1, c .before .before .before .before .before .before .before .before .before .before .before .before .before .before .before .before .before .before .before .before .before .before .before .before .before .before .before .before .before .before .before .before .before .before .before .before .pre)) _ 3 refl (c .before .before .before .before .before .put-outcome .ensures),
+      partly-next (l .inv .2) next (omega (arith, h, l .inv .1, c .before .before .before .before .before .before .before .before .before .before .before .before .before .before .before .before .before .before .before .before .before .before .before .before .before .before .before .before .before .before .before .before .before .before .before .before .before .pre)) _ 3 refl (c .before .before .before .before .before .put-outcome .ensures),
       stays (y .last .1 .1 .1 .1 .0) (l .fades) 96 (y .kept .1 .1 .1 .1 .0) (l .inv .3),
       stays (y .last .1 .1 .1 .1 .1 .0) (l .books) 96 (y .kept .1 .1 .1 .1 .1 .0) (l .inv .4),
       stays (y .last .1 .1 .1 .1 .1 .1 .0) (l .since) 32 (y .kept .1 .1 .1 .1 .1 .1 .0) (l .inv .5),
@@ -188,7 +173,7 @@ same-length c = partly-within (c .before .before .loop .inv .2) .1
 returns : tie.Need-returns Inv-loop μ-loop
 returns c =
     let l = c .before .before .loop in
-    let file = c .before .before .before .before .before .before .before .before .before .before .before .before .args .file .now in
+    let file = c .before .before .before .before .before .before .before .before .before .before .before .before .before .args .file .now in
     partly-end (l .inv .2) (outcomes-end file (eventCount file) (l .i) _ (past-end _ _ _ (c .before .read-end .ensures .0) (not-false _ (c .if1 .left)))) .1
 
 pub run-spec : {M : Type 1} → statement M
@@ -199,8 +184,7 @@ run-spec =
     μ-loop
     air-requires
     table-of-requires
-    reals-of-requires
-    wholes-of-requires
+    numbers-of-requires
     fresh-core-requires
     unpriced-prices-requires
     loop-holds

@@ -2,9 +2,6 @@
 use borrow.Author.Needs.{needs}
 use mathlib.Core.Path.{_≡_, sym}
 use lib.ListN.{length}
-use Rattle.ladder.proofs.Arrays.{of-parts}
-use Rattle.steps.specs.bridges.Held.{laid}
-use Rattle.steps.proofs.Laid.{stands}
 use Rattle.rate.proofs.Framing.{transmit-front}
 use Rattle.rate.proofs.frames.transmit.Statement.{statement}
 use Rattle.rate.proofs.frames.transmit.Tie as tie
@@ -16,26 +13,17 @@ since-long c = search needs
 wait-long : (c : tie.Start) → length (c .args .k .state .wait) ≡ 32
 wait-long c = search (needs, c .good .0 .1 .1 .1 .1 .0)
 
-rows-long : (c : tie.Start) → length (c .args .k .table .rows) ≡ 32
-rows-long c = search (needs, of-parts)
-
-front-long : (c : tie.Start) → length (c .args .k .table .front) ≡ 32
-front-long c = search (needs, of-parts)
-
-reals-long : (c : tie.After-reals-of) → length (c .reals-of .result) ≡ 96
+reals-long : (c : tie.After-numbers-of) → length (c .numbers-of .result .reals) ≡ 96
 reals-long c = search needs
 
-wholes-long : (c : tie.After-wholes-of) → length (c .wholes-of .result) ≡ 96
+wholes-long : (c : tie.After-numbers-of) → length (c .numbers-of .result .wholes) ≡ 96
 wholes-long c = search needs
 
 books-long : (c : tie.After-books-of) → length (c .books-of .result) ≡ 96
 books-long c = search needs
 
-reals-of-requires : tie.Need-reals-of-requires
-reals-of-requires c κs = search needs
-
-wholes-of-requires : tie.Need-wholes-of-requires
-wholes-of-requires c κs = search needs
+numbers-of-requires : tie.Need-numbers-of-requires
+numbers-of-requires c κs = search needs
 
 books-of-requires : tie.Need-books-of-requires
 books-of-requires c κs = search needs
@@ -47,24 +35,24 @@ pass-of-requires : tie.Need-pass-of-requires
 pass-of-requires c κs = search needs
 
 slice-aggregate-transmit : tie.Need-slice-aggregate-transmit
-slice-aggregate-transmit c = search needs
+slice-aggregate-transmit c = sym (reals-long (c .before .before .before .before .before .before .before .before))
 
 slice-aggregate-transmit-2 : tie.Need-slice-aggregate-transmit-2
-slice-aggregate-transmit-2 c = search needs
+slice-aggregate-transmit-2 c = sym (wholes-long (c .before .before .before .before .before .before .before .before .before))
 
 slice-aggregate-transmit-3 : tie.Need-slice-aggregate-transmit-3
 slice-aggregate-transmit-3 c = search needs
 
 slice-aggregate-transmit-4 : tie.Need-slice-aggregate-transmit-4
-slice-aggregate-transmit-4 c = sym (since-long (c .before .before .before .before .before .before .before .before .before .before .before .before .before .before .before .before .before))
+slice-aggregate-transmit-4 c = sym (since-long (c .before .before .before .before .before .before .before .before .before .before .before .before .before .before .before .before .before .before))
 
 slice-aggregate-transmit-5 : tie.Need-slice-aggregate-transmit-5
-slice-aggregate-transmit-5 c = sym (wait-long (c .before .before .before .before .before .before .before .before .before .before .before .before .before .before .before .before .before .before))
+slice-aggregate-transmit-5 c = sym (wait-long (c .before .before .before .before .before .before .before .before .before .before .before .before .before .before .before .before .before .before .before))
 
 transmit-requires : tie.Need-transmit-requires
 transmit-requires c κs = (
-  record { of-reals = reals-long (c .before .before .before .before .before .before .before .before .before .before .before); of-wholes = wholes-long (c .before .before .before .before .before .before .before .before .before .before) },
-  record { of-books = books-long (c .before .before .before .before .before .before .before .before .before); of-since = since-long (c .before .before .before .before .before .before .before .before .before .before .before .before .before .before .before .before .before .before); of-wait = wait-long (c .before .before .before .before .before .before .before .before .before .before .before .before .before .before .before .before .before .before) },
+  record { of-reals = reals-long (c .before .before .before .before .before .before .before .before .before .before .before .before); of-wholes = wholes-long (c .before .before .before .before .before .before .before .before .before .before .before .before) },
+  record { of-books = books-long (c .before .before .before .before .before .before .before .before .before); of-since = since-long (c .before .before .before .before .before .before .before .before .before .before .before .before .before .before .before .before .before .before .before); of-wait = wait-long (c .before .before .before .before .before .before .before .before .before .before .before .before .before .before .before .before .before .before .before) },
 )
 
 was-ended-requires : tie.Need-was-ended-requires
@@ -72,18 +60,17 @@ was-ended-requires c κs = search needs
 
 returns : tie.Need-returns
 returns c =
-    let k = c .before .before .before .before .before .before .before .before .before .before .before .before .before .before .before .before .before .before .before .before .before .before .before .args .k in
-    let y = c .before .before .before .before .before .before .before .before .before .before .before .before .before .before .before .before .before .before .before .before .before .before .before .args .y in
+    let k = c .before .before .before .before .before .before .before .before .before .before .before .before .before .before .before .before .before .before .before .before .before .before .before .before .args .k in
+    let y = c .before .before .before .before .before .before .before .before .before .before .before .before .before .before .before .before .before .before .before .before .before .before .before .before .args .y in
     let d = c .before .before .before .before .transmit in
-    let t : laid (k .table .air) (c .before .before .before .before .before .before .before .before .before .before .before .before .before .before .before .before .reals-of .result) (c .before .before .before .before .before .before .before .before .before .before .before .before .before .before .before .wholes-of .result) ≡ k .table = stands (k .table) _ _ (c .before .before .before .before .before .before .before .before .before .before .before .before .before .before .before .before .reals-of .ensures) (c .before .before .before .before .before .before .before .before .before .before .before .before .before .before .before .wholes-of .ensures) (rows-long (c .before .before .before .before .before .before .before .before .before .before .before .before .before .before .before .before .before .before .before .before .before .before .before)) (front-long (c .before .before .before .before .before .before .before .before .before .before .before .before .before .before .before .before .before .before .before .before .before .before .before)) in
-    transmit-front k y (c .before .before .before .before .before .before .before .before .before .before .before .before .before .before .before .before .before .before .before .before .before .before .before .args .snr) _ _ (d .last .1 .1 .1 .1 .1 .0) (d .last .1 .1 .1 .1 .1 .1 .0) _ _ (d .result) _ t (c .before .before .before .before .before .before .before .before .before .before .before .before .before .before .books-of .ensures) (c .before .before .before .before .before .before .before .before .before .before .before .observe-snr .ensures) (c .before .before .before .before .before .before .before .before .before .before .pass-of .ensures) (d .ensures) (c .was-ended .ensures)
+    let t = c .before .before .before .before .before .before .before .before .before .before .before .before .before .before .before .before .before .numbers-of .ensures in
+    transmit-front k y (c .before .before .before .before .before .before .before .before .before .before .before .before .before .before .before .before .before .before .before .before .before .before .before .before .args .snr) _ _ (d .last .1 .1 .1 .1 .1 .0) (d .last .1 .1 .1 .1 .1 .1 .0) _ _ (d .result) _ t (c .before .before .before .before .before .before .before .before .before .before .before .before .before .before .books-of .ensures) (c .before .before .before .before .before .before .before .before .before .before .before .observe-snr .ensures) (c .before .before .before .before .before .before .before .before .before .before .pass-of .ensures) (d .ensures) (c .was-ended .ensures)
 
 pub transmit-spec : {M : Type 1} → statement M
 transmit-spec =
     tie.close
     (tie.spec
-    reals-of-requires
-    wholes-of-requires
+    numbers-of-requires
     books-of-requires
     observe-snr-requires
     pass-of-requires

@@ -1,26 +1,12 @@
 -- `RateController::observe_echo` meets its contract: what the call in place moved is put back. Assumes nothing.
 use borrow.Author.Needs.{needs}
 use mathlib.Core.Path.{_≡_, _∙_}
-use lib.ListN.{length}
-use Rattle.ladder.proofs.Arrays.{of-parts}
-use Rattle.steps.specs.bridges.Held.{laid}
-use Rattle.steps.proofs.Laid.{stands}
 use Rattle.rate.proofs.Framing.{echo-front}
 use Rattle.rate.proofs.types.RateController.observe_echo.Statement.{statement}
 use Rattle.rate.proofs.types.RateController.observe_echo.Tie as tie
 
--- how long the table's arrays are
-rows-long : (c : tie.Start) → length (c .args .self .table .rows) ≡ 32
-rows-long c = search (needs, of-parts)
-
-front-long : (c : tie.Start) → length (c .args .self .table .front) ≡ 32
-front-long c = search (needs, of-parts)
-
-reals-of-requires : tie.Need-reals-of-requires
-reals-of-requires c κs = search needs
-
-wholes-of-requires : tie.Need-wholes-of-requires
-wholes-of-requires c κs = search needs
+numbers-of-requires : tie.Need-numbers-of-requires
+numbers-of-requires c κs = search needs
 
 books-of-requires : tie.Need-books-of-requires
 books-of-requires c κs = search needs
@@ -42,16 +28,15 @@ answer-requires c κs = search needs
 
 returns : tie.Need-returns
 returns c =
-    let k = c .before .before .before .before .before .before .before .before .before .before .before .before .before .before .args .self in
-    let t : laid (k .table .air) (c .before .before .before .before .before .before .before .reals-of .result) (c .before .before .before .before .before .before .wholes-of .result) ≡ k .table = stands (k .table) _ _ (c .before .before .before .before .before .before .before .reals-of .ensures) (c .before .before .before .before .before .before .wholes-of .ensures) (rows-long (c .before .before .before .before .before .before .before .before .before .before .before .before .before .before)) (front-long (c .before .before .before .before .before .before .before .before .before .before .before .before .before .before)) in
-    c .answer .ensures ∙ echo-front k _ (c .before .before .before .before .before .books-of .result) t (c .before .before .before .before .before .books-of .ensures) (c .before .before .before .before .before .before .before .before .before .before .before .before .before .before .args .share) (c .before .before .before .before .before .before .before .before .before .before .before .before .before .before .args .snr-db) _ (c .before .observe-echo .ensures)
+    let k = c .before .before .before .before .before .before .before .before .before .before .before .before .before .before .before .args .self in
+    let t = c .before .before .before .before .before .before .before .before .numbers-of .ensures in
+    c .answer .ensures ∙ echo-front k _ (c .before .before .before .before .before .books-of .result) t (c .before .before .before .before .before .books-of .ensures) (c .before .before .before .before .before .before .before .before .before .before .before .before .before .before .before .args .share) (c .before .before .before .before .before .before .before .before .before .before .before .before .before .before .before .args .snr-db) _ (c .before .observe-echo .ensures)
 
 pub observe-echo-spec : {M : Type 1} → statement M
 observe-echo-spec =
     tie.close
     (tie.spec
-    reals-of-requires
-    wholes-of-requires
+    numbers-of-requires
     books-of-requires
     slice-aggregate-observe-echo
     slice-aggregate-observe-echo-2

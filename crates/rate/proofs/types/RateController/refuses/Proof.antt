@@ -6,35 +6,22 @@ use Prim.Native.Nat.{ℕ}
 use lib.Dec.{ltb}
 use native.Mathlib.Omega.{arith}
 use borrow.Author.Tests.{le-ltb}
-use lib.ListN.{length}
-use Rattle.ladder.proofs.Arrays.{of-parts}
 use Rattle.ladder.specs.declared.types.Table.{Table}
 use Rattle.account.specs.declared.types.State.{State}
-use Rattle.steps.specs.bridges.Held.{laid, bare}
-use Rattle.steps.proofs.Laid.{stands}
+use Rattle.steps.specs.bridges.Held.{bare}
 use Rattle.rules.specs.Echo.{allOut, refuses}
 use Rattle.rate.proofs.types.RateController.refuses.Statement.{statement}
 use Rattle.rate.proofs.types.RateController.refuses.Tie as tie
 
--- how long the table's arrays are
-rows-long : (c : tie.Start) → length (c .args .self .table .rows) ≡ 32
-rows-long c = search (needs, of-parts)
-
-front-long : (c : tie.Start) → length (c .args .self .table .front) ≡ 32
-front-long c = search (needs, of-parts)
-
 is-floor-requires : tie.Need-is-floor-requires
 is-floor-requires c κs = search needs
+
+numbers-of-requires : tie.Need-numbers-of-requires
+numbers-of-requires c κs = search needs
 
 returns : tie.Need-returns
 unfolding refuses
 returns c = rw (← c .before .is-floor .ensures, c .if1 .taken) refl
-
-reals-of-requires : tie.Need-reals-of-requires
-reals-of-requires c κs = search needs
-
-wholes-of-requires : tie.Need-wholes-of-requires
-wholes-of-requires c κs = search needs
 
 slice-aggregate-refuses-ofdm : tie.Need-slice-aggregate-refuses-ofdm
 slice-aggregate-refuses-ofdm c = search needs
@@ -53,9 +40,9 @@ refused-by t k s r b e f g =
 
 returns-2 : tie.Need-returns-2
 returns-2 c =
-    let k = c .before .before .before .before .before .before .before .before .before .before .before .args .self in
-    let t : laid (k .table .air) (c .before .before .before .before .reals-of .result) (c .before .before .before .wholes-of .result) ≡ k .table = stands (k .table) _ _ (c .before .before .before .before .reals-of .ensures) (c .before .before .before .wholes-of .ensures) (rows-long (c .before .before .before .before .before .before .before .before .before .before .before)) (front-long (c .before .before .before .before .before .before .before .before .before .before .before)) in
-    refused-by _ (k .table) (k .state) (c .before .before .before .before .before .before .before .before .before .before .before .args .mode .0) (c .refuses-ofdm .result) t (c .refuses-ofdm .ensures) (sym (c .before .before .before .before .before .before .before .is-floor .ensures) ∙ c .before .before .before .before .before .before .if1 .left)
+    let k = c .before .before .before .before .before .before .before .before .before .before .before .before .args .self in
+    let t = c .before .before .before .before .before .numbers-of .ensures in
+    refused-by _ (k .table) (k .state) (c .before .before .before .before .before .before .before .before .before .before .before .before .args .mode .0) (c .refuses-ofdm .result) t (c .refuses-ofdm .ensures) (sym (c .before .before .before .before .before .before .before .before .is-floor .ensures) ∙ c .before .before .before .before .before .before .before .if1 .left)
 
 pub refuses-spec : {M : Type 1} → statement M
 refuses-spec =
@@ -63,8 +50,7 @@ refuses-spec =
     (tie.spec
     is-floor-requires
     returns
-    reals-of-requires
-    wholes-of-requires
+    numbers-of-requires
     slice-aggregate-refuses-ofdm
     slice-aggregate-refuses-ofdm-2
     refuses-ofdm-requires
