@@ -4,8 +4,8 @@ use Prim.Native.Nat.{ℕ}
 use Rattle.ladder.specs.declared.types.Table.{Table}
 use Rattle.ladder.specs.Types.{row}
 use Rattle.account.specs.State.{Prices, State, account}
-use Rattle.account.specs.Price.{estimateAt, estimate, lossless, priced, value, losslessPrice}
-use Rattle.account.specs.bridges.Rated.{estimateBy, valueBy, losslessBy}
+use Rattle.account.specs.Price.{estimateAt, estimate, priced, value}
+use Rattle.account.specs.bridges.Rated.{estimateBy, valueBy}
 
 module _ (t : Table) (p : Prices) (s : State) (r : ℕ) where
   pub estimated : estimateBy (t .air) (s .core) r (row t r) (account s r) ≡ estimate t s r
@@ -15,7 +15,3 @@ module _ (t : Table) (p : Prices) (s : State) (r : ℕ) where
   pub valued : valueBy (t .air) p (s .core) r (row t r) (account s r) ≡ value t p s r
   unfolding value priced estimateAt
   valued = refl
-
-  pub lossless-priced : losslessBy (t .air) p r (row t r) ≡ losslessPrice t p r
-  unfolding losslessPrice priced lossless
-  lossless-priced = refl

@@ -1,11 +1,8 @@
 -- Arrays of 32 as lists: a read in range, where the default does not matter, and past the end; a store past the end; and an array that is filled from its start.
 -- Assumes nothing.
 use mathlib.Core.Path.{_≡_, refl, sym, ap, subst, _∙_}
-use mathlib.Core.Bool.{Bool, true, false, cond}
 use mathlib.Core.List.{List, [], _∷_, _++_, map}
-use Prim.Native.Nat.{ℕ, zero, suc, _+_, _-_, _%_, _<_, _≤_}
-use borrow.Author.Tests.{ltb-true, ltb-false}
-use lib.Dec.{ltb}
+use Prim.Native.Nat.{ℕ, zero, suc, _+_, _-_, _<_, _≤_}
 use native.Mathlib.Nat.{not-suc-le-zero, le-of-suc-le-suc, le-of-lt}
 use native.Mathlib.Numerals.{add-one}
 use native.Mathlib.Omega.{arith}
@@ -57,14 +54,6 @@ module _ {A : Type 0} where
     -- past the end a store changes nothing
     pub unstored : (a : A) → 32 ≤ i → l ≡ set l i a
     unstored a h = sym (set-out l i a (subst (λ (n : ℕ). n ≤ i) (sym long) h))
-
-    -- the entry at i modulo 32 behind the test `i < 32`
-    pub wrapped : (d e : A) → cond (ltb i 32) (getD l (i % 32) d) e ≡ getD l i e
-    wrapped d e = go (ltb i 32) refl
-      where
-        go : (b : Bool) → ltb i 32 ≡ b → cond b (getD l (i % 32) d) e ≡ getD l i e
-        go true h = let q : i % 32 ≡ i = omega (arith, ltb-true i 32 h) in ap (λ (n : ℕ). getD l n d) q ∙ inside d e (ltb-true i 32 h)
-        go false h = outside e (ltb-false i 32 h)
 
 -- how many entries an array of structs has is said of a list of their parts; for `search (needs, of-parts)`
 pub of-parts : (X Y : Type 0) (f : X → Y) (l : List X) (n : ℕ) → length (map f l) ≡ n → length l ≡ n

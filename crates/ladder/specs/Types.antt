@@ -1,5 +1,5 @@
 -- How a table is read. A rung is the source's mode, a place its index. Definitions only.
-use mathlib.Core.Bool.{Bool, true}
+use mathlib.Core.Bool.{Bool}
 use Prim.Native.Nat.{ℕ, min}
 use lib.Dec.{ltb}
 use lib.ListN.{getD}

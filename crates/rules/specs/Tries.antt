@@ -5,7 +5,6 @@ use Prim.Native.Nat.{ℕ, zero, suc, _+_, _*_, min}
 use lib.Dec.{leb, ltb, eqb}
 use lib.Ieee.{Float, le, lt}
 use Rattle.float.specs.Numbers.{f64, _⊖_, f0, f2}
-use Rattle.limits.specs.declared.reading.Reading.{Reading}
 use Rattle.ladder.specs.declared.types.Table.{Table}
 use Rattle.ladder.specs.Types.{rung, rungAt, placesOf, isFloor}
 use Rattle.account.specs.declared.types.Trying.{Trying}

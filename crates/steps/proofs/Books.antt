@@ -20,7 +20,7 @@ use Rattle.account.specs.State.{noAccount}
 use Rattle.rules.specs.declared.types.Frame.{Frame}
 use Rattle.rules.specs.Booking.{f12, aged, gained, bookOne, bookFrame}
 use Rattle.rules.specs.bridges.Tally.{factor}
-use Rattle.steps.specs.bridges.Held.{accountsOf, laid}
+use Rattle.steps.specs.bridges.Held.{accountsOf}
 use Rattle.steps.specs.bridges.Pass.{Fading, scaled}
 use Rattle.steps.proofs.Three.{three, three-first, three-second, three-third, three-other}
 

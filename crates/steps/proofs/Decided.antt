@@ -13,7 +13,7 @@ use Rattle.ladder.specs.declared.types.Table.{Table}
 use Rattle.ladder.specs.Types.{rung, placesOf, row}
 use Rattle.account.specs.declared.types.Prices.{Prices}
 use Rattle.account.specs.declared.types.Trying.the-variants.{Nothing, Running}
-use Rattle.account.specs.State.{choice, withPlace, withTrying, coreWithTrying, coreWithPlace}
+use Rattle.account.specs.State.{choice, withTrying, coreWithTrying, coreWithPlace}
 use Rattle.account.specs.Price.{value, estimateAt, losslessPrice, fullAir, waitSeconds, burstOr}
 use Rattle.rules.specs.Tries.{Decided}
 use Rattle.rules.specs.declared.lowest.Best.{Best}
@@ -22,7 +22,7 @@ use Rattle.rules.specs.Echo.{usable}
 use Rattle.rules.specs.Tries.{candidate, choose, nano, cleanClimb, above, begins, begin, decideTry, decideAt, decide}
 use Rattle.rules.proofs.Greatest.{worth, Valued, keeps}
 use Rattle.account.specs.declared.types.Core.{Core}
-use Rattle.steps.specs.bridges.Held.{held, rated, bare, decidedOf, laid}
+use Rattle.steps.specs.bridges.Held.{held, rated, bare, decidedOf}
 
 -- the value found is the choice's: no value looks at the place
 pub chosen : (t : Table) (p : Prices) (b : List Float) (c z : Core) (i : Place) (v : Float) → choose t p (rated b c) ≡ Found i v → z ≡ (coreWithPlace c (i .0))

@@ -1,7 +1,7 @@
 -- The steps that move no array move nothing but the core: times and waits do not matter to them, and to silence no account does. Assumes nothing.
 use mathlib.Core.Path.{_≡_, refl, ap}
 use mathlib.Core.Bool.{Bool, true, false, cond}
-use mathlib.Core.List.{List, []}
+use mathlib.Core.List.{List}
 use Prim.Native.Nat.{ℕ, zero, suc, _-_}
 use lib.Ieee.{Float, neg, lt}
 use Rattle.float.specs.Numbers.{f64}
@@ -14,10 +14,10 @@ use Rattle.account.specs.declared.types.Prices.{Prices}
 use Rattle.account.specs.declared.types.State.{State}
 use Rattle.account.specs.declared.types.Trying.{Trying}
 use Rattle.account.specs.declared.types.Trying.the-variants.{Nothing, Running}
-use Rattle.account.specs.State.{choice, coreWithTrying, coreWithEcho, withTrying, withPlace}
+use Rattle.account.specs.State.{coreWithTrying, coreWithEcho, withTrying, withPlace}
 use Rattle.account.specs.Price.{estimateAt, value}
 use Rattle.rules.specs.declared.lowest.Best.the-variants.{NoneYet}
-use Rattle.rules.specs.Echo.{smoothEcho, over, usable, endIfOut, downIfOut, echoed, observeEcho, highest, silent, seedAt, seed, allOut, refuses}
+use Rattle.rules.specs.Echo.{smoothEcho, over, usable, endIfOut, downIfOut, echoed, observeEcho, highest, silent, seedAt, seed}
 use Rattle.rules.specs.Lowest.{greatest, bestPlace}
 use Rattle.account.specs.declared.types.Core.{Core}
 use Rattle.steps.specs.bridges.Held.{kept, held, rated, bare}
@@ -81,12 +81,3 @@ module _ (t : Table) (l : List Account) (since : List Float) (wait : List ℕ) w
   pub silent-core : (c : Core) (steps : ℕ) → silent t (kept l since wait c) steps ≡ kept l since wait (silent t (bare c) steps .core)
   unfolding silent
   silent-core c steps = ap (withPlace (withTrying (kept l since wait c) Nothing)) (highest-core c (c .place .0 - steps))
-
--- ---- what the readings see of a state
-module _ (t : Table) (b since : List Float) (wait : List ℕ) (c : Core) where
-  pub refuses-core : (r : ℕ) → refuses t (held b since wait c) r ≡ refuses t (bare c) r
-  unfolding refuses allOut
-  refuses-core r = refl
-
-  pub choice-core : choice t (held b since wait c) ≡ choice t (bare c)
-  choice-core = refl

@@ -14,7 +14,7 @@ use Rattle.account.specs.Price.{estimateAt, value, waitSeconds}
 use Rattle.rules.specs.Echo.{usable}
 use Rattle.rules.specs.Tries.{better, judgeTry, placeFrom, fullWait, won}
 use Rattle.account.specs.declared.types.Core.{Core}
-use Rattle.steps.specs.bridges.Held.{held, rated, bare, laid}
+use Rattle.steps.specs.bridges.Held.{held, rated, bare}
 
 module _ (t : Table) (p : Prices) (books since : List Float) (wait : List ℕ) (c : Core) where
   -- no time and no wait is looked at

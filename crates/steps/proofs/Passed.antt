@@ -14,7 +14,6 @@ use Rattle.account.specs.declared.types.Prices.{Prices}
 use Rattle.account.specs.declared.types.State.{State}
 use Rattle.account.specs.State.{choice}
 use Rattle.rules.specs.declared.types.Frame.{Frame}
-use Rattle.rules.specs.Tries.{Decided}
 use Rattle.rules.specs.declared.pass.Tally.{Tally}
 use Rattle.rules.specs.Echo.{observeSnr}
 use Rattle.rules.specs.Booking.{book}

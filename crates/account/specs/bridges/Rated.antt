@@ -5,7 +5,6 @@ use Prim.Native.Nat.{ℕ}
 use lib.Dec.{ltb}
 use lib.Ieee.{Float}
 use Rattle.float.specs.Numbers.{_⊘_, ofNat}
-use Rattle.limits.specs.declared.reading.Reading.{Reading}
 use Rattle.ladder.specs.declared.types.Air.{Air}
 use Rattle.ladder.specs.declared.types.Row.{Row}
 use Rattle.account.specs.State.{Account, Core, Prices}

@@ -15,7 +15,7 @@ use Rattle.ladder.specs.declared.types.Row.{Row}
 use Rattle.ladder.specs.declared.types.Rung.{Rung}
 use Rattle.ladder.specs.declared.types.Table.{Table}
 use Rattle.ladder.specs.Lists.{tabulate}
-use Rattle.ladder.specs.Types.{rung, noRow}
+use Rattle.ladder.specs.Types.{rung}
 use Rattle.account.specs.declared.types.Account.{Account}
 use Rattle.account.specs.declared.types.Core.{Core}
 use Rattle.account.specs.declared.types.State.{State}

@@ -1,5 +1,5 @@
 -- A transmission's frames booked in place, one after the other: the factors kept between them, and what else one pass gathers. Definitions only.
-use mathlib.Core.Bool.{Bool, true, false}
+use mathlib.Core.Bool.{true, false}
 use mathlib.Core.List.{List, foldl}
 use mathlib.Core.Path.{_≡_}
 use Prim.Native.Nat.{ℕ, zero, suc, _*_, _/_, _<_}

@@ -4,7 +4,7 @@ use Prim.Native.Nat.{ℕ, _*_, min}
 use native.Mathlib.Omega.{arith}
 use borrow.Author.Needs.{needs}
 use Rattle.rules.proofs.Fade.{own-fade}
-use Rattle.steps.specs.bridges.Held.{accountsOf, laid}
+use Rattle.steps.specs.bridges.Held.{accountsOf}
 use Rattle.steps.specs.bridges.Pass.{scaled}
 use Rattle.steps.proofs.Books.{books-own, books-others}
 use Rattle.steps.proofs.booking.book_accounts.Statement.{statement}

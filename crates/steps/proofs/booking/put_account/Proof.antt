@@ -3,7 +3,7 @@ use Prim.Native.Nat.{_+_, _*_}
 use lib.ListN.{set, length-set}
 use borrow.Author.Needs.{needs}
 use Rattle.ladder.proofs.Arrays.{unstored}
-use Rattle.steps.specs.bridges.Held.{accountsOf, laid}
+use Rattle.steps.specs.bridges.Held.{accountsOf}
 use Rattle.steps.proofs.Books.{accounts-length, account-set}
 use Rattle.steps.proofs.booking.put_account.Statement.{statement}
 use Rattle.steps.proofs.booking.put_account.Tie as tie

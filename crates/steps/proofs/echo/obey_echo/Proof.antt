@@ -7,7 +7,7 @@ use lib.Ieee.{Float}
 use Rattle.ladder.specs.declared.types.Table.{Table}
 use Rattle.ladder.specs.Types.{row, rungAt}
 use Rattle.account.specs.declared.types.Prices.{Prices}
-use Rattle.account.specs.State.{withTrying, withPlace, coreWithTrying, coreWithPlace}
+use Rattle.account.specs.State.{coreWithTrying, coreWithPlace}
 use Rattle.account.specs.Price.{estimateAt, value}
 use Rattle.rules.specs.declared.lowest.Best.the-variants.{NoneYet}
 use Rattle.rules.specs.Echo.{over, usable, endIfOut, echoed}

@@ -11,7 +11,7 @@ use Rattle.account.specs.declared.types.Prices.{Prices}
 use Rattle.account.specs.State.{coreWithEcho}
 use Rattle.rules.specs.Echo.{smoothEcho, echoed, observeEcho}
 use Rattle.account.specs.declared.types.Core.{Core}
-use Rattle.steps.specs.bridges.Held.{rated, bare, laid}
+use Rattle.steps.specs.bridges.Held.{rated, laid}
 use borrow.Author.Needs.{needs}
 use Rattle.steps.proofs.echo.observe_echo.Statement.{statement}
 use Rattle.steps.proofs.echo.observe_echo.Tie as tie

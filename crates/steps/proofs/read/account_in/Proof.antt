@@ -7,7 +7,7 @@ use borrow.Author.Needs.{needs}
 use Rattle.float.specs.Numbers.{f0}
 use Rattle.ladder.proofs.Arrays.{any-default, outside}
 use Rattle.account.specs.State.{noAccount}
-use Rattle.steps.specs.bridges.Held.{accountsOf, laid}
+use Rattle.steps.specs.bridges.Held.{accountsOf}
 use Rattle.steps.proofs.Books.{accounts-length, account-at}
 use Rattle.steps.proofs.read.account_in.Statement.{statement}
 use Rattle.steps.proofs.read.account_in.Tie as tie

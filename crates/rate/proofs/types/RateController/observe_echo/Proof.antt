@@ -1,6 +1,6 @@
 -- `RateController::observe_echo` meets its contract: what the call in place moved is put back. Assumes nothing.
 use borrow.Author.Needs.{needs}
-use mathlib.Core.Path.{_≡_, _∙_}
+use mathlib.Core.Path.{_∙_}
 use Rattle.rate.proofs.Framing.{echo-front}
 use Rattle.rate.proofs.types.RateController.observe_echo.Statement.{statement}
 use Rattle.rate.proofs.types.RateController.observe_echo.Tie as tie

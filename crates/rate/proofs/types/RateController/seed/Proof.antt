@@ -1,6 +1,6 @@
 -- `RateController::seed` meets its contract: what the call in place moved is put back. Assumes nothing.
 use borrow.Author.Needs.{needs}
-use mathlib.Core.Path.{_≡_, _∙_}
+use mathlib.Core.Path.{_∙_}
 use Rattle.rate.proofs.Framing.{seed-front}
 use Rattle.rate.proofs.types.RateController.seed.Statement.{statement}
 use Rattle.rate.proofs.types.RateController.seed.Tie as tie

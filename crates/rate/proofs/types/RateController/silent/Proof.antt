@@ -1,6 +1,6 @@
 -- `RateController::silent` meets its contract: what the call in place moved is put back. Assumes nothing.
 use borrow.Author.Needs.{needs}
-use mathlib.Core.Path.{_≡_, _∙_}
+use mathlib.Core.Path.{_∙_}
 use Rattle.rate.proofs.Framing.{silence-front}
 use Rattle.rate.proofs.types.RateController.silent.Statement.{statement}
 use Rattle.rate.proofs.types.RateController.silent.Tie as tie
