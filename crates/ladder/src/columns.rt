@@ -89,16 +89,6 @@ pub(crate) fn ok_rates(thresholds: &[f64], payload: &[u32]) -> bool
     all_bytes(payload)
 }
 
-// An echo limit: one that is missing is within the limits.
-pub(crate) fn ok_limit(limit: Reading) -> bool
-    ensures { λ r. ⌜ r ≡ okLimit limit ⌝ }
-{
-    match limit {
-        Reading::Missing => true,
-        Reading::Value(x) => limits::values::ok_share(x),
-    }
-}
-
 // The first `limited` of the echo limits.
 pub(crate) fn all_limits(column: [Reading; 32], limited: u32) -> bool
     requires { ⌜ limited ≤ 32 ⌝ }
@@ -108,7 +98,7 @@ pub(crate) fn all_limits(column: [Reading; 32], limited: u32) -> bool
     let mut i = 0;
     while i < n {
         let limit = column[i];
-        if !ok_limit(limit) {
+        if !limits::reading::ok_limit(limit) {
             return false;
         }
         i += 1;
