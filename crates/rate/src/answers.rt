@@ -41,19 +41,17 @@ pub(crate) fn answer(k: RateController, m: Moved) -> Answer
     let wait = s.wait;
     let core = m.core;
     let verdict = m.verdict;
-    let state = State {
-        accounts,
-        since,
-        wait,
-        core,
-    };
-    let controller = RateController {
-        table,
-        prices,
-        state,
-    };
     Answer {
-        controller,
+        controller: RateController {
+            table,
+            prices,
+            state: State {
+                accounts,
+                since,
+                wait,
+                core,
+            },
+        },
         verdict,
         ended: m.ended,
         begun: m.begun,
@@ -66,13 +64,12 @@ pub fn repriced(k: RateController, p: Prices) -> Answer
 {
     let table = k.table;
     let state = k.state;
-    let controller = RateController {
-        table,
-        prices: p,
-        state,
-    };
     Answer {
-        controller,
+        controller: RateController {
+            table,
+            prices: p,
+            state,
+        },
         verdict: Verdict::Accepted,
         ended: false,
         begun: false,

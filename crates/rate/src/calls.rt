@@ -38,9 +38,8 @@ impl RateController {
         let air = t.air;
         let c = s.core;
         let n = numbers_of(t);
-        let reals = n.reals;
         let wholes = n.wholes;
-        let m = crate::inplace::silent(air, p, &reals, &wholes, c, steps);
+        let m = crate::inplace::silent(air, p, &n.reals, &wholes, c, steps);
         answer(self, m)
     }
 
@@ -55,10 +54,9 @@ impl RateController {
         let c = s.core;
         let accounts = s.accounts;
         let n = numbers_of(t);
-        let reals = n.reals;
         let wholes = n.wholes;
         let books = books_of(accounts);
-        let m = crate::inplace::seed(air, p, &reals, &wholes, &books, c, snr_db);
+        let m = crate::inplace::seed(air, p, &n.reals, &wholes, &books, c, snr_db);
         answer(self, m)
     }
 
@@ -73,10 +71,9 @@ impl RateController {
         let c = s.core;
         let accounts = s.accounts;
         let n = numbers_of(t);
-        let reals = n.reals;
         let wholes = n.wholes;
         let books = books_of(accounts);
-        let m = crate::inplace::observe_echo(air, p, &reals, &wholes, &books, c, share, snr_db);
+        let m = crate::inplace::observe_echo(air, p, &n.reals, &wholes, &books, c, share, snr_db);
         answer(self, m)
     }
 

@@ -88,15 +88,14 @@ fn pass_of(y: Tally) -> Pass
 fn transmit(k: RateController, y: Tally, snr: Reading) -> Answer
     ensures { λ r. ⌜ r ≡ done k (transmitted k y snr .state) (transmitted k y snr .begun) ⌝ }
 {
-    let t = k.table;
-    let p = k.prices;
+    let table = k.table;
+    let prices = k.prices;
     let s = k.state;
     let old = s.core;
     let before = old.trying;
-    let air = t.air;
+    let air = table.air;
     let accounts = y.accounts;
-    let n = numbers_of(t);
-    let reals = n.reals;
+    let n = numbers_of(table);
     let wholes = n.wholes;
     let books = books_of(accounts);
     let mut since = s.since;
@@ -105,8 +104,8 @@ fn transmit(k: RateController, y: Tally, snr: Reading) -> Answer
     let pass = pass_of(y);
     let d = steps::frames::transmit(
         air,
-        p,
-        &reals,
+        prices,
+        &n.reals,
         &wholes,
         &books,
         &mut since,
@@ -116,22 +115,19 @@ fn transmit(k: RateController, y: Tally, snr: Reading) -> Answer
     );
     let core = d.core;
     let after = core.trying;
-    let ended = was_ended(before, after, d.begun);
-    let state = State {
-        accounts,
-        since,
-        wait,
-        core,
-    };
-    let controller = RateController {
-        table: t,
-        prices: p,
-        state,
-    };
     Answer {
-        controller,
+        controller: RateController {
+            table,
+            prices,
+            state: State {
+                accounts,
+                since,
+                wait,
+                core,
+            },
+        },
         verdict: Verdict::Accepted,
-        ended,
+        ended: was_ended(before, after, d.begun),
         begun: d.begun,
     }
 }
@@ -147,22 +143,18 @@ fn take_snr(k: RateController, snr: Reading) -> Answer
     answer(k, crate::inplace::done(before, c, false))
 }
 
-// Accepted.
-fn accept_frames(k: RateController, n: u32, y: Tally, snr: Reading) -> Answer
-    ensures { λ r. ⌜ r ≡ acceptFrames k n y snr ⌝ }
-{
-    if n == 0 {
-        return take_snr(k, snr);
-    }
-    transmit(k, y, snr)
-}
-
 // The answer, from what both passes found.
 fn finish_frames(k: RateController, v: Check, y: Tally, snr: Reading) -> Answer
     ensures { λ r. ⌜ r ≡ finishFrames k v y snr ⌝ }
 {
     match frames_verdict(v, snr) {
-        Verdict::Accepted => accept_frames(k, v.count, y, snr),
+        Verdict::Accepted => {
+            if v.count == 0 {
+                take_snr(k, snr)
+            } else {
+                transmit(k, y, snr)
+            }
+        }
         Verdict::Refused(why) => crate::answers::refused(k, why),
     }
 }

@@ -35,24 +35,21 @@ pass-of-requires : tie.Need-pass-of-requires
 pass-of-requires c κs = search needs
 
 slice-aggregate-transmit : tie.Need-slice-aggregate-transmit
-slice-aggregate-transmit c = sym (reals-long (c .before .before .before .before .before .before .before .before))
+slice-aggregate-transmit c = sym (wholes-long (c .before .before .before .before .before .before .before .before .before .before))
 
 slice-aggregate-transmit-2 : tie.Need-slice-aggregate-transmit-2
-slice-aggregate-transmit-2 c = sym (wholes-long (c .before .before .before .before .before .before .before .before .before))
+slice-aggregate-transmit-2 c = sym (books-long (c .before .before .before .before .before .before .before .before .before))
 
 slice-aggregate-transmit-3 : tie.Need-slice-aggregate-transmit-3
-slice-aggregate-transmit-3 c = search needs
+slice-aggregate-transmit-3 c = sym (since-long (c .before .before .before .before .before .before .before .before .before .before .before .before .before .before .before .before .before .before .before))
 
 slice-aggregate-transmit-4 : tie.Need-slice-aggregate-transmit-4
-slice-aggregate-transmit-4 c = sym (since-long (c .before .before .before .before .before .before .before .before .before .before .before .before .before .before .before .before .before .before))
-
-slice-aggregate-transmit-5 : tie.Need-slice-aggregate-transmit-5
-slice-aggregate-transmit-5 c = sym (wait-long (c .before .before .before .before .before .before .before .before .before .before .before .before .before .before .before .before .before .before .before))
+slice-aggregate-transmit-4 c = sym (wait-long (c .before .before .before .before .before .before .before .before .before .before .before .before .before .before .before .before .before .before .before .before))
 
 transmit-requires : tie.Need-transmit-requires
 transmit-requires c κs = (
-  record { of-reals = reals-long (c .before .before .before .before .before .before .before .before .before .before .before .before); of-wholes = wholes-long (c .before .before .before .before .before .before .before .before .before .before .before .before) },
-  record { of-books = books-long (c .before .before .before .before .before .before .before .before .before); of-since = since-long (c .before .before .before .before .before .before .before .before .before .before .before .before .before .before .before .before .before .before .before); of-wait = wait-long (c .before .before .before .before .before .before .before .before .before .before .before .before .before .before .before .before .before .before .before) },
+  record { of-reals = reals-long (c .before .before .before .before .before .before .before .before .before .before .before .before .before); of-wholes = wholes-long (c .before .before .before .before .before .before .before .before .before .before .before .before .before) },
+  record { of-books = books-long (c .before .before .before .before .before .before .before .before .before .before .before); of-since = since-long (c .before .before .before .before .before .before .before .before .before .before .before .before .before .before .before .before .before .before .before .before); of-wait = wait-long (c .before .before .before .before .before .before .before .before .before .before .before .before .before .before .before .before .before .before .before .before) },
 )
 
 was-ended-requires : tie.Need-was-ended-requires
@@ -60,11 +57,9 @@ was-ended-requires c κs = search needs
 
 returns : tie.Need-returns
 returns c =
-    let k = c .before .before .before .before .before .before .before .before .before .before .before .before .before .before .before .before .before .before .before .before .before .before .before .before .args .k in
-    let y = c .before .before .before .before .before .before .before .before .before .before .before .before .before .before .before .before .before .before .before .before .before .before .before .before .args .y in
+    let a = c .before .before .before .before .before .before .before .before .before .before .before .before .before .before .before .before .before .before .before .before .before .before .before .before .before .args in
     let d = c .before .before .before .before .transmit in
-    let t = c .before .before .before .before .before .before .before .before .before .before .before .before .before .before .before .before .before .numbers-of .ensures in
-    transmit-front k y (c .before .before .before .before .before .before .before .before .before .before .before .before .before .before .before .before .before .before .before .before .before .before .before .before .args .snr) _ _ (d .last .1 .1 .1 .1 .1 .0) (d .last .1 .1 .1 .1 .1 .1 .0) _ _ (d .result) _ t (c .before .before .before .before .before .before .before .before .before .before .before .before .before .before .books-of .ensures) (c .before .before .before .before .before .before .before .before .before .before .before .observe-snr .ensures) (c .before .before .before .before .before .before .before .before .before .before .pass-of .ensures) (d .ensures) (c .was-ended .ensures)
+    transmit-front (a .k) (a .y) (a .snr) _ _ (d .last .1 .1 .1 .1 .1 .0) (d .last .1 .1 .1 .1 .1 .1 .0) _ _ (d .result) _ (c .before .before .before .before .before .before .before .before .before .before .before .before .before .before .before .before .before .before .numbers-of .ensures) (c .before .before .before .before .before .before .before .before .before .before .before .before .before .before .before .before .books-of .ensures) (c .before .before .before .before .before .before .before .before .before .before .before .before .before .observe-snr .ensures) (c .before .before .before .before .before .before .before .before .before .before .before .before .pass-of .ensures) (d .ensures) (c .was-ended .ensures)
 
 pub transmit-spec : {M : Type 1} → statement M
 transmit-spec =
@@ -78,7 +73,6 @@ transmit-spec =
     slice-aggregate-transmit-2
     slice-aggregate-transmit-3
     slice-aggregate-transmit-4
-    slice-aggregate-transmit-5
     transmit-requires
     was-ended-requires
     returns)

@@ -17,9 +17,6 @@ slice-aggregate-observe-echo c = search needs
 slice-aggregate-observe-echo-2 : tie.Need-slice-aggregate-observe-echo-2
 slice-aggregate-observe-echo-2 c = search needs
 
-slice-aggregate-observe-echo-3 : tie.Need-slice-aggregate-observe-echo-3
-slice-aggregate-observe-echo-3 c = search needs
-
 observe-echo-requires : tie.Need-observe-echo-requires
 observe-echo-requires c κs = search needs
 
@@ -28,9 +25,9 @@ answer-requires c κs = search needs
 
 returns : tie.Need-returns
 returns c =
-    let k = c .before .before .before .before .before .before .before .before .before .before .before .before .before .before .before .args .self in
-    let t = c .before .before .before .before .before .before .before .before .numbers-of .ensures in
-    c .answer .ensures ∙ echo-front k _ (c .before .before .before .before .before .books-of .result) t (c .before .before .before .before .before .books-of .ensures) (c .before .before .before .before .before .before .before .before .before .before .before .before .before .before .before .args .share) (c .before .before .before .before .before .before .before .before .before .before .before .before .before .before .before .args .snr-db) _ (c .before .observe-echo .ensures)
+    let k = c .before .before .before .before .before .before .before .before .before .before .before .before .before .before .before .before .args .self in
+    let t = c .before .before .before .before .before .before .before .before .before .numbers-of .ensures in
+    c .answer .ensures ∙ echo-front k _ (c .before .before .before .before .before .before .before .books-of .result) t (c .before .before .before .before .before .before .before .books-of .ensures) (c .before .before .before .before .before .before .before .before .before .before .before .before .before .before .before .before .args .share) (c .before .before .before .before .before .before .before .before .before .before .before .before .before .before .before .before .args .snr-db) _ (c .before .observe-echo .ensures)
 
 pub observe-echo-spec : {M : Type 1} → statement M
 observe-echo-spec =
@@ -40,7 +37,6 @@ observe-echo-spec =
     books-of-requires
     slice-aggregate-observe-echo
     slice-aggregate-observe-echo-2
-    slice-aggregate-observe-echo-3
     observe-echo-requires
     answer-requires
     returns)

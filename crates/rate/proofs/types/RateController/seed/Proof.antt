@@ -17,9 +17,6 @@ slice-aggregate-seed c = search needs
 slice-aggregate-seed-2 : tie.Need-slice-aggregate-seed-2
 slice-aggregate-seed-2 c = search needs
 
-slice-aggregate-seed-3 : tie.Need-slice-aggregate-seed-3
-slice-aggregate-seed-3 c = search needs
-
 seed-requires : tie.Need-seed-requires
 seed-requires c κs = search needs
 
@@ -28,9 +25,9 @@ answer-requires c κs = search needs
 
 returns : tie.Need-returns
 returns c =
-    let k = c .before .before .before .before .before .before .before .before .before .before .before .before .before .before .before .args .self in
-    let t = c .before .before .before .before .before .before .before .before .numbers-of .ensures in
-    c .answer .ensures ∙ seed-front k _ (c .before .before .before .before .before .books-of .result) t (c .before .before .before .before .before .books-of .ensures) (c .before .before .before .before .before .before .before .before .before .before .before .before .before .before .before .args .snr-db) _ (c .before .seed .ensures)
+    let k = c .before .before .before .before .before .before .before .before .before .before .before .before .before .before .before .before .args .self in
+    let t = c .before .before .before .before .before .before .before .before .before .numbers-of .ensures in
+    c .answer .ensures ∙ seed-front k _ (c .before .before .before .before .before .before .before .books-of .result) t (c .before .before .before .before .before .before .before .books-of .ensures) (c .before .before .before .before .before .before .before .before .before .before .before .before .before .before .before .before .args .snr-db) _ (c .before .seed .ensures)
 
 pub seed-spec : {M : Type 1} → statement M
 seed-spec =
@@ -40,7 +37,6 @@ seed-spec =
     books-of-requires
     slice-aggregate-seed
     slice-aggregate-seed-2
-    slice-aggregate-seed-3
     seed-requires
     answer-requires
     returns)

@@ -11,9 +11,6 @@ numbers-of-requires c κs = search needs
 slice-aggregate-silent : tie.Need-slice-aggregate-silent
 slice-aggregate-silent c = search needs
 
-slice-aggregate-silent-2 : tie.Need-slice-aggregate-silent-2
-slice-aggregate-silent-2 c = search needs
-
 silent-requires : tie.Need-silent-requires
 silent-requires c κs = search needs
 
@@ -22,9 +19,9 @@ answer-requires c κs = search needs
 
 returns : tie.Need-returns
 returns c =
-    let k = c .before .before .before .before .before .before .before .before .before .before .before .before .args .self in
-    let t = c .before .before .before .before .before .before .numbers-of .ensures in
-    c .answer .ensures ∙ silence-front k _ t (c .before .before .before .before .before .before .before .before .before .before .before .before .args .steps) _ (c .before .silent .ensures)
+    let k = c .before .before .before .before .before .before .before .before .before .before .before .before .before .args .self in
+    let t = c .before .before .before .before .before .before .before .numbers-of .ensures in
+    c .answer .ensures ∙ silence-front k _ t (c .before .before .before .before .before .before .before .before .before .before .before .before .before .args .steps) _ (c .before .silent .ensures)
 
 pub silent-spec : {M : Type 1} → statement M
 silent-spec =
@@ -32,7 +29,6 @@ silent-spec =
     (tie.spec
     numbers-of-requires
     slice-aggregate-silent
-    slice-aggregate-silent-2
     silent-requires
     answer-requires
     returns)
