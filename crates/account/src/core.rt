@@ -1,5 +1,6 @@
 // All of a state that is no array: with one part changed, fresh, and made anew.
 ghost use mathlib.Core.Path.{_≡_};
+ghost use mathlib.Core.Bool.{not, _&&_, _||_};
 ghost use Rattle.account.specs.State.{runs, coreWithTrying, coreWithSnr, coreWithEcho, coreWithPlace, freshCore};
 use crate::types::Core;
 use crate::types::Mark;
@@ -15,6 +16,17 @@ pub fn is_running(y: Trying) -> bool
     match y {
         Trying::Nothing => false,
         Trying::Running(_, _, _) => true,
+    }
+}
+
+// Whether a try that ran before does not run on: none runs, or another was begun.
+pub fn was_ended(before: Trying, after: Trying, begun: bool) -> bool
+    ensures { λ b. ⌜ b ≡ (runs before && (begun || not (runs after))) ⌝ }
+{
+    if is_running(before) {
+        if begun { true } else { !is_running(after) }
+    } else {
+        false
     }
 }
 

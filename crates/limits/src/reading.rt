@@ -1,6 +1,6 @@
 // A reading is missing or carries its value: an SNR, an echo share, an echo limit.
 ghost use mathlib.Core.Path.{_≡_};
-ghost use Rattle.limits.specs.Readings.{okLimit, okSnr};
+ghost use Rattle.limits.specs.Readings.{okLimit, okSnr, okEcho};
 use crate::values::ok_db;
 use crate::values::ok_share;
 
@@ -26,5 +26,15 @@ pub fn ok_snr(x: Reading) -> bool
     match x {
         Reading::Missing => true,
         Reading::Value(y) => ok_db(y),
+    }
+}
+
+// Whether an echo reading is within its limits; of a missing share the SNR is not looked at.
+pub fn ok_echo(share: Reading, snr_db: f64) -> bool
+    ensures { λ b. ⌜ b ≡ okEcho share «snr_db» ⌝ }
+{
+    match share {
+        Reading::Missing => true,
+        Reading::Value(x) => { if ok_share(x) { ok_db(snr_db) } else { false } }
     }
 }

@@ -17,9 +17,10 @@ use Rattle.rules.specs.declared.types.Frame.{Frame}
 use Rattle.rate.specs.declared.types.RateController.{RateController}
 use Rattle.rate.specs.Calls.{Call, Frames, Echo, Silence, Snr, Seed, Price, Family, verdict, accepted, answered, step}
 use Rattle.account.specs.declared.types.Core.{Core}
-use Rattle.rate.specs.declared.types.Moved.{Moved}
+use Rattle.steps.specs.declared.types.Moved.{Moved}
 use Rattle.steps.specs.bridges.Held.{held}
-use Rattle.rate.specs.bridges.Playing.{playing, movedOf, refusedMove}
+use Rattle.steps.specs.bridges.Moved.{refusedMove}
+use Rattle.rate.specs.bridges.Playing.{playing, movedOf}
 use Rattle.rate.proofs.Framing.{echo-keeps, echo-moves, silence-keeps, silence-moves, snr-keeps, snr-moves, seed-keeps, seed-moves}
 use Rattle.question.specs.Bytes.{byte, float, readingOf}
 use Rattle.question.specs.Body.{kind, framesIn, burstsIn, callOf}

@@ -11,7 +11,7 @@ use Rattle.account.specs.State.{unpriced}
 use Rattle.rate.specs.declared.types.RateController.{RateController}
 use Rattle.rate.specs.Calls.{Call, step}
 use Rattle.account.specs.declared.types.Core.{Core}
-use Rattle.rate.specs.declared.types.Moved.{Moved}
+use Rattle.steps.specs.declared.types.Moved.{Moved}
 use Rattle.steps.specs.bridges.Held.{held}
 use Rattle.rate.specs.bridges.Playing.{playing, movedOf, answerOf}
 use Rattle.steps.specs.bridges.Pass.{Kept}

@@ -19,8 +19,8 @@ use question::body::frame_count;
 use question::body::frame_of;
 use question::bytes::past;
 use question::bytes::reading_of;
-use rate::types::Moved;
 use rules::check::Check;
+use steps::types::Moved;
 use steps::types::Pass;
 
 // What a pass over a body's frames gathered, and the air of the last one, which the factors kept are for.
@@ -105,7 +105,7 @@ fn take_frames(
     let before = c.trying;
     let z = steps::echo::observe_snr(c, snr);
     if frame_count(body) == 0 {
-        let moved = rate::inplace::done(before, z, false);
+        let moved = steps::calls::done(before, z, false);
         return Played { moved, faded: last };
     }
     let place = z.place;
@@ -114,7 +114,7 @@ fn take_frames(
     let y = b.pass;
     let d = steps::frames::transmit(t, p, reals, wholes, books, since, wait, z, y);
     let core = d.core;
-    let moved = rate::inplace::done(before, core, d.begun);
+    let moved = steps::calls::done(before, core, d.begun);
     Played {
         moved,
         faded: b.faded,
@@ -160,7 +160,7 @@ pub(crate) fn frames_event(
             snr,
         ),
         Verdict::Refused(why) => {
-            let moved = rate::inplace::refused(c, why);
+            let moved = steps::calls::refused(c, why);
             Played { moved, faded: last }
         }
     }

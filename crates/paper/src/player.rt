@@ -25,8 +25,8 @@ use question::bytes::u32_of;
 use question::event::families_event;
 use question::event::prices_event;
 use rate::types::Answer;
-use rate::types::Moved;
 use rate::types::RateController;
+use steps::types::Moved;
 
 // ---- prices
 // The call of a body of families or prices on a controller of those prices. It looks at neither table nor state, so both are blank, and it goes by value.
@@ -102,21 +102,21 @@ fn light_event(
     if kind == 2 {
         let share = reading_of(past(body, 1));
         let snr_db = f64_of(past(body, 10));
-        return rate::inplace::observe_echo(t, p, reals, wholes, books, c, share, snr_db);
+        return steps::calls::observe_echo(t, p, reals, wholes, books, c, share, snr_db);
     }
     if kind == 3 {
         let steps = u32_of(past(body, 1));
-        return rate::inplace::silent(t, p, reals, wholes, c, steps);
+        return steps::calls::silent(t, reals, wholes, c, steps);
     }
     if kind == 4 {
         let snr = reading_of(past(body, 1));
-        return rate::inplace::observe_snr(c, snr);
+        return steps::calls::observe_snr(c, snr);
     }
     if is_pricing(body) {
         return price_event(p, c, body);
     }
     let snr_db = f64_of(past(body, 1));
-    rate::inplace::seed(t, p, reals, wholes, books, c, snr_db)
+    steps::calls::seed(t, p, reals, wholes, books, c, snr_db)
 }
 
 // The call that a body stands for, made: what it leaves and returns.

@@ -25,8 +25,8 @@ use limits::refusal::Verdict;
 use question::file::air;
 use question::reader::read_body;
 use question::reader::read_end;
-use rate::types::Moved;
 use rate::types::Probing;
+use steps::types::Moved;
 
 // Whether a try runs, and of which rung.
 fn tried_of(y: Trying) -> Probing
@@ -65,9 +65,9 @@ pub(crate) fn run(file: &[u8], log: &mut [u32])
 {
     let table = table_of(air(file));
     let t = table.air;
-    let n = steps::read::numbers_of(table);
-    let reals = n.reals;
-    let wholes = n.wholes;
+    let mut reals = [0.0f64; 96];
+    let mut wholes = [0u32; 96];
+    steps::read::lay_table(table, &mut reals, &mut wholes);
     let mut fades = [0.0f64; 96];
     let mut books = [0.0f64; 96];
     let mut since = [0.0f64; 32];

@@ -17,8 +17,7 @@ use Rattle.ladder.specs.Lists.{every}
 use Rattle.rules.specs.declared.types.Frame.{Frame}
 use Rattle.rate.specs.declared.types.Answer.{Answer}
 use Rattle.rate.specs.declared.types.RateController.{RateController}
-use Rattle.rate.specs.Calls.{Frames, Price, verdict, refused, step}
-use Rattle.rate.specs.bridges.Frames.{heldFrames}
+use Rattle.rate.specs.Calls.{Frames, Price, verdict, refused, step, heldFrames}
 use Rattle.rate.proofs.ByKind.{price-outside, price-too-many}
 use Rattle.rate.proofs.Passes.{held-step}
 use Rattle.question.specs.Body.{Batch, Bursts, noFrames, noBursts, batchOf, burstsOf}

@@ -4,6 +4,10 @@ use mathlib.Core.Bool.{Bool, false, not, _&&_, _||_}
 use mathlib.Core.List.{List, []}
 use Prim.Native.Nat.{ℕ}
 use lib.Ieee.{Float}
+use Rattle.limits.specs.Refusals.{unless}
+use Rattle.limits.specs.Readings.{okSnr, okEcho}
+use Rattle.limits.specs.Values.{okDb}
+use Rattle.limits.specs.declared.refusal.Refusal.the-variants.{OutsideLimits}
 use Rattle.limits.specs.declared.refusal.Verdict.{Verdict}
 use Rattle.limits.specs.declared.refusal.Verdict.the-variants.{Accepted, Refused}
 use Rattle.limits.specs.declared.reading.Reading.{Reading}
@@ -13,16 +17,49 @@ use Rattle.account.specs.declared.types.Prices.{Prices}
 use Rattle.account.specs.declared.types.State.{State}
 use Rattle.account.specs.State.{runs}
 use Rattle.rules.specs.declared.pass.Tally.{Tally}
-use Rattle.rules.specs.Echo.{observeSnr}
+use Rattle.rules.specs.Echo.{observeEcho, silent, seed, observeSnr}
 use Rattle.rules.specs.Tries.{Decided}
-use Rattle.steps.specs.bridges.Held.{accountsOf, kept, held, bare, decidedOf}
+use Rattle.steps.specs.bridges.Held.{accountsOf, kept, held, rated, bare, decidedOf}
+use Rattle.steps.specs.declared.types.Moved.{Moved}
+use Rattle.steps.specs.bridges.Moved.{movedBy}
 use Rattle.steps.specs.declared.types.Decision.{Decision}
 use Rattle.steps.specs.declared.types.Pass.{Pass}
 use Rattle.steps.specs.bridges.Pass.{passOf, decidedPass}
 use Rattle.steps.proofs.Framing.{observe-echo-core, seed-core, silent-core}
 use Rattle.rate.specs.Calls.{RateController, Answer, withState, Call, Echo, Silence, Snr, Seed, verdict, accepted, done, answered, step}
 use Rattle.rate.specs.bridges.Frames.{smoothed, transmitted}
-use Rattle.rate.specs.bridges.Playing.{Moved, playing, movedOf, answerOf, answerBy}
+use Rattle.rate.specs.bridges.Playing.{playing, movedOf, answerOf, answerBy}
+
+-- ---- what a call in place says that it moved is what `step` leaves and returns, without what it does not move
+moved-step : (k : RateController) (x : Call) (s : State) → accepted k x ≡ done k s false → movedBy (k .state .core) s (verdict (k .table) x) ≡ movedOf (step k x)
+unfolding step
+moved-step k x s e = go (verdict (k .table) x)
+  where
+    go : (v : Verdict) → movedBy (k .state .core) s v ≡ movedOf (answered k x v)
+    go Accepted = rw e refl
+    go (Refused why) = refl
+
+module _ (t : Table) (p : Prices) (c : Core) where
+  pub echo-moved : (b : List Float) (share : Reading) (snr : Float) → movedBy c (observeEcho t p (rated b c) share snr) (unless (okEcho share snr) OutsideLimits) ≡ movedOf (step (playing t p b [] [] c) (Echo share snr))
+  unfolding accepted verdict
+  echo-moved b share snr = moved-step (playing t p b [] [] c) (Echo share snr) _ refl
+
+  pub seed-moved : (b : List Float) (snr : Float) → movedBy c (seed t p (rated b c) snr) (unless (okDb snr) OutsideLimits) ≡ movedOf (step (playing t p b [] [] c) (Seed snr))
+  unfolding accepted verdict
+  seed-moved b snr = moved-step (playing t p b [] [] c) (Seed snr) _ refl
+
+  pub silence-moved : (steps : ℕ) → movedBy c (silent t (bare c) steps) Accepted ≡ movedOf (step (playing t p [] [] [] c) (Silence steps))
+  unfolding accepted verdict
+  silence-moved steps = moved-step (playing t p [] [] [] c) (Silence steps) _ refl
+
+-- of the state an SNR reading looks at the core alone
+pub snr-moved : (k : RateController) (snr : Reading) → movedBy (k .state .core) (observeSnr (bare (k .state .core)) snr) (unless (okSnr snr) OutsideLimits) ≡ movedOf (step k (Snr snr))
+unfolding step accepted verdict
+snr-moved k snr = go (unless (okSnr snr) OutsideLimits)
+  where
+    go : (v : Verdict) → movedBy (k .state .core) (observeSnr (bare (k .state .core)) snr) v ≡ movedOf (answered k (Snr snr) v)
+    go Accepted = refl
+    go (Refused why) = refl
 
 -- ---- what each call leaves and returns, by what it leaves of the state where it is accepted
 module _ (t : Table) (p : Prices) (b since : List Float) (wait : List ℕ) (c : Core) where
@@ -107,20 +144,20 @@ module _ (k : RateController) (t : Table) (b : List Float) (laid : t ≡ k .tabl
       let q : answerOf t p b n w m ≡ answerBy k m = rw (laid, booked) refl in
       sym q ∙ parts (step (playing t p b n w c) x) t p b n w m e f ∙ ap (λ (h : RateController). step h x) stands
 
-  pub echo-front : (share : Reading) (snr : Float) (m : Moved) → m ≡ movedOf (step (playing t p b [] [] c) (Echo share snr)) → answerBy k m ≡ step k (Echo share snr)
-  echo-front share snr m e = rw e (put-back (Echo share snr) _ (echo-keeps t p b n w c share snr) (echo-moves t p b n w c share snr))
+  pub echo-front : (share : Reading) (snr : Float) (m : Moved) → m ≡ movedBy c (observeEcho t p (rated b c) share snr) (unless (okEcho share snr) OutsideLimits) → answerBy k m ≡ step k (Echo share snr)
+  echo-front share snr m e = rw (e, echo-moved t p c b share snr) (put-back (Echo share snr) _ (echo-keeps t p b n w c share snr) (echo-moves t p b n w c share snr))
 
-  pub seed-front : (snr : Float) (m : Moved) → m ≡ movedOf (step (playing t p b [] [] c) (Seed snr)) → answerBy k m ≡ step k (Seed snr)
-  seed-front snr m e = rw e (put-back (Seed snr) _ (seed-keeps t p b n w c snr) (seed-moves t p b n w c snr))
+  pub seed-front : (snr : Float) (m : Moved) → m ≡ movedBy c (seed t p (rated b c) snr) (unless (okDb snr) OutsideLimits) → answerBy k m ≡ step k (Seed snr)
+  seed-front snr m e = rw (e, seed-moved t p c b snr) (put-back (Seed snr) _ (seed-keeps t p b n w c snr) (seed-moves t p b n w c snr))
 
 module _ (k : RateController) where
-  pub silence-front : (t : Table) → t ≡ k .table → (steps : ℕ) (m : Moved) → m ≡ movedOf (step (playing t (k .prices) [] [] [] (k .state .core)) (Silence steps)) → answerBy k m ≡ step k (Silence steps)
+  pub silence-front : (t : Table) → t ≡ k .table → (steps : ℕ) (m : Moved) → m ≡ movedBy (k .state .core) (silent t (bare (k .state .core)) steps) Accepted → answerBy k m ≡ step k (Silence steps)
   unfolding step accepted verdict
   silence-front t laid steps m e = rw (e, laid, silent-core (k .table) (k .state .accounts) (k .state .since) (k .state .wait) (k .state .core) steps) refl
 
-  pub snr-front : (snr : Reading) (m : Moved) → m ≡ movedOf (step k (Snr snr)) → answerBy k m ≡ step k (Snr snr)
+  pub snr-front : (snr : Reading) (m : Moved) → m ≡ movedBy (k .state .core) (observeSnr (bare (k .state .core)) snr) (unless (okSnr snr) OutsideLimits) → answerBy k m ≡ step k (Snr snr)
   unfolding step accepted
-  snr-front snr m e = rw e (go (verdict (k .table) (Snr snr)))
+  snr-front snr m e = rw (e, snr-moved k snr) (go (verdict (k .table) (Snr snr)))
     where
       go : (v : Verdict) → answerBy k (movedOf (answered k (Snr snr) v)) ≡ answered k (Snr snr) v
       go Accepted = refl

@@ -19,8 +19,8 @@ use Rattle.rules.specs.bridges.Tally.{bookAll}
 use Rattle.rules.specs.bridges.Check.{checkAll}
 use Rattle.rules.proofs.FirstBad.{finds-first-bad, counts-frames}
 use Rattle.steps.proofs.Passed.{tally-decided}
-use Rattle.rate.specs.Calls.{RateController, Frames, done, verdict, accepted, answered, step}
-use Rattle.rate.specs.bridges.Frames.{smoothed, beginPass, beginChecks, framesVerdict, transmitted, acceptFrames, answerFrames, finishFrames, observedFrames, heldFrames}
+use Rattle.rate.specs.Calls.{RateController, Frames, done, verdict, accepted, answered, step, heldFrames}
+use Rattle.rate.specs.bridges.Frames.{smoothed, beginPass, beginChecks, framesVerdict, transmitted, acceptFrames, answerFrames, finishFrames, observedFrames}
 
 -- a count up to 257 tells whether there are over 256
 over-256 : (n : ℕ) → leb (min 257 n) 256 ≡ leb n 256

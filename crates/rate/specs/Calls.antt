@@ -1,20 +1,19 @@
 -- The seven kinds of call that change a controller, which are refused (6 to 9), what each leaves and returns, and what a list of them leaves. Definitions only.
-use mathlib.Core.Bool.{Bool, true, false, not, _&&_, _||_}
+use mathlib.Core.Bool.{Bool, true, false, not, _&&_, _||_, cond}
 use mathlib.Core.List.{List, [], _∷_}
 use Prim.Native.Nat.{ℕ}
 use lib.Dec.{leb}
-use lib.ListN.{length}
+use lib.ListN.{length, take}
 use lib.Ieee.{Float}
-use Rattle.limits.specs.Values.{okDb, okLength, okBurst, okShare}
+use Rattle.limits.specs.Values.{okDb, okLength, okBurst}
 use Rattle.limits.specs.Refusals.{unless, orElse}
 use Rattle.limits.specs.declared.refusal.Refusal.the-variants.{TooManyFrames, OutsideLimits, TooManyBursts}
 use Rattle.limits.specs.declared.refusal.Verdict.{Verdict}
 use Rattle.limits.specs.declared.refusal.Verdict.the-variants.{Accepted, Refused}
 use Rattle.limits.specs.declared.reading.Reading.{Reading}
-use Rattle.limits.specs.declared.reading.Reading.the-variants.{Missing, Value}
 use Rattle.ladder.specs.declared.types.Table.{Table}
 use Rattle.ladder.specs.Lists.{every, filled}
-use Rattle.limits.specs.Readings.{okSnr}
+use Rattle.limits.specs.Readings.{okSnr, okEcho}
 use Rattle.account.specs.declared.types.Families.the-variants.{Set}
 use Rattle.account.specs.declared.types.Tariff.{Tariff}
 use Rattle.account.specs.declared.types.Prices.{Prices}
@@ -44,11 +43,6 @@ pub data Call : Type 0 where
   Family : Bool → Bool → Call
 
 -- ---- refusals
--- "A missing echo reading is accepted and its SNR is not looked at."
-abbrev pub okEcho : Reading → Float → Bool
-okEcho Missing snr = true
-okEcho (Value x) snr = okShare x && okDb snr
-
 -- "The lowest applicable number is given, except in frames: 7 first, then the first bad frame (6 before 8), then the SNR."
 -- "Silence steps: any u32."
 unfoldable pub verdict : Table → Call → Verdict
@@ -104,6 +98,10 @@ answered k c (Refused why) = refused k (Refused why)
 -- what a call leaves and returns: each public call promises this
 unfoldable pub step : RateController → Call → Answer
 step k c = answered k c (verdict (k .table) c)
+
+-- the first `count` frames of an array of 256. "256 frames accepted, 257 gives 7": it is `step` of any list whose first 256 the array holds (proofs/Passes.antt)
+unfoldable pub heldFrames : RateController → List Frame → ℕ → Reading → Answer
+heldFrames k frames count snr = cond (leb count 256) (step k (Frames (take count frames) snr)) (refused k (Refused TooManyFrames))
 
 -- "The first call gets the fresh controller, each next one what the last left, and nothing else touches it."
 unfoldable pub after : RateController → List Call → RateController

@@ -1,33 +1,15 @@
 // What a changing call answers: accepted with its marks, or refused with the controller as it was.
 ghost use mathlib.Core.Path.{_≡_};
-ghost use mathlib.Core.Bool.{not, _&&_, _||_};
 ghost use Rattle.limits.specs.declared.refusal.Verdict.the-variants.{Refused};
-ghost use Rattle.account.specs.State.{runs};
 ghost use Rattle.rate.specs.Calls.{repriced, refused};
 ghost use Rattle.rate.specs.bridges.Playing.{answerBy};
 use crate::types::Answer;
-use crate::types::Moved;
 use crate::types::RateController;
 use account::types::Prices;
 use account::types::State;
-use account::types::Trying;
 use limits::refusal::Refusal;
 use limits::refusal::Verdict;
-
-// Whether a try that ran before does not run on: none runs, or another was begun.
-pub fn was_ended(before: Trying, after: Trying, begun: bool) -> bool
-    ensures { λ b. ⌜ b ≡ (runs before && (begun || not (runs after))) ⌝ }
-{
-    if account::core::is_running(before) {
-        if begun {
-            true
-        } else {
-            !account::core::is_running(after)
-        }
-    } else {
-        false
-    }
-}
+use steps::types::Moved;
 
 // What a call in place that moves no array left and returned, put together with the rest of the controller.
 pub(crate) fn answer(k: RateController, m: Moved) -> Answer

@@ -7,8 +7,8 @@ use crate::types::RateController;
 use account::types::Families;
 use account::types::Prices;
 use limits::reading::Reading;
-use steps::read::books_of;
-use steps::read::numbers_of;
+use steps::read::lay_accounts;
+use steps::read::lay_table;
 
 // A controller is laid out as slices, the call is made in place, and what it moved is put together again.
 impl RateController {
@@ -18,7 +18,7 @@ impl RateController {
     {
         let s = self.state;
         let c = s.core;
-        answer(self, crate::inplace::observe_snr(c, snr))
+        answer(self, steps::calls::observe_snr(c, snr))
     }
 
     // A burst's counts: only its SNR is read. Refused: 8.
@@ -33,13 +33,13 @@ impl RateController {
         ensures { λ r. ⌜ r ≡ step self (Silence steps) ⌝ }
     {
         let t = self.table;
-        let p = self.prices;
         let s = self.state;
         let air = t.air;
         let c = s.core;
-        let n = numbers_of(t);
-        let wholes = n.wholes;
-        let m = crate::inplace::silent(air, p, &n.reals, &wholes, c, steps);
+        let mut reals = [0.0f64; 96];
+        let mut wholes = [0u32; 96];
+        lay_table(t, &mut reals, &mut wholes);
+        let m = steps::calls::silent(air, &reals, &wholes, c, steps);
         answer(self, m)
     }
 
@@ -53,10 +53,12 @@ impl RateController {
         let air = t.air;
         let c = s.core;
         let accounts = s.accounts;
-        let n = numbers_of(t);
-        let wholes = n.wholes;
-        let books = books_of(accounts);
-        let m = crate::inplace::seed(air, p, &n.reals, &wholes, &books, c, snr_db);
+        let mut reals = [0.0f64; 96];
+        let mut wholes = [0u32; 96];
+        lay_table(t, &mut reals, &mut wholes);
+        let mut books = [0.0f64; 96];
+        lay_accounts(accounts, &mut books);
+        let m = steps::calls::seed(air, p, &reals, &wholes, &books, c, snr_db);
         answer(self, m)
     }
 
@@ -70,10 +72,12 @@ impl RateController {
         let air = t.air;
         let c = s.core;
         let accounts = s.accounts;
-        let n = numbers_of(t);
-        let wholes = n.wholes;
-        let books = books_of(accounts);
-        let m = crate::inplace::observe_echo(air, p, &n.reals, &wholes, &books, c, share, snr_db);
+        let mut reals = [0.0f64; 96];
+        let mut wholes = [0u32; 96];
+        lay_table(t, &mut reals, &mut wholes);
+        let mut books = [0.0f64; 96];
+        lay_accounts(accounts, &mut books);
+        let m = steps::calls::observe_echo(air, p, &reals, &wholes, &books, c, share, snr_db);
         answer(self, m)
     }
 

@@ -7,10 +7,9 @@ ghost use Rattle.limits.specs.Refusals.{unless};
 ghost use Rattle.limits.specs.Readings.{okSnr};
 ghost use Rattle.limits.specs.declared.refusal.Refusal.the-variants.{OutsideLimits};
 ghost use Rattle.steps.specs.bridges.Pass.{passOf};
-ghost use Rattle.rate.specs.Calls.{step, Frames, done};
-ghost use Rattle.rate.specs.bridges.Frames.{smoothed, beginPass, beginChecks, framesVerdict, transmitted, acceptFrames, finishFrames, heldFrames};
+ghost use Rattle.rate.specs.Calls.{step, Frames, done, heldFrames};
+ghost use Rattle.rate.specs.bridges.Frames.{smoothed, beginPass, beginChecks, framesVerdict, transmitted, acceptFrames, finishFrames};
 use crate::answers::answer;
-use crate::answers::was_ended;
 use crate::types::Answer;
 use crate::types::RateController;
 use account::types::State;
@@ -20,8 +19,8 @@ use limits::refusal::Verdict;
 use rules::check::Check;
 use rules::pass::Tally;
 use rules::types::Frame;
-use steps::read::books_of;
-use steps::read::numbers_of;
+use steps::read::lay_accounts;
+use steps::read::lay_table;
 use steps::types::Pass;
 
 // The longest list that is accepted.
@@ -95,9 +94,11 @@ fn transmit(k: RateController, y: Tally, snr: Reading) -> Answer
     let before = old.trying;
     let air = table.air;
     let accounts = y.accounts;
-    let n = numbers_of(table);
-    let wholes = n.wholes;
-    let books = books_of(accounts);
+    let mut reals = [0.0f64; 96];
+    let mut wholes = [0u32; 96];
+    let mut books = [0.0f64; 96];
+    lay_table(table, &mut reals, &mut wholes);
+    lay_accounts(accounts, &mut books);
     let mut since = s.since;
     let mut wait = s.wait;
     let c = steps::echo::observe_snr(old, snr);
@@ -105,7 +106,7 @@ fn transmit(k: RateController, y: Tally, snr: Reading) -> Answer
     let d = steps::frames::transmit(
         air,
         prices,
-        &n.reals,
+        &reals,
         &wholes,
         &books,
         &mut since,
@@ -127,7 +128,7 @@ fn transmit(k: RateController, y: Tally, snr: Reading) -> Answer
             },
         },
         verdict: Verdict::Accepted,
-        ended: was_ended(before, after, d.begun),
+        ended: account::core::was_ended(before, after, d.begun),
         begun: d.begun,
     }
 }
@@ -140,7 +141,7 @@ fn take_snr(k: RateController, snr: Reading) -> Answer
     let old = s.core;
     let before = old.trying;
     let c = steps::echo::observe_snr(old, snr);
-    answer(k, crate::inplace::done(before, c, false))
+    answer(k, steps::calls::done(before, c, false))
 }
 
 // The answer, from what both passes found.

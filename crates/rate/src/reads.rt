@@ -15,8 +15,8 @@ use ladder::types::Place;
 use ladder::types::Rung;
 use limits::reading::Reading;
 use limits::refusal::Refusal;
-use steps::read::books_of;
-use steps::read::numbers_of;
+use steps::read::lay_accounts;
+use steps::read::lay_table;
 
 impl RateController {
     // The families last set.
@@ -38,9 +38,9 @@ impl RateController {
             return false;
         }
         let c = s.core;
-        let n = numbers_of(t);
-        let reals = n.reals;
-        let wholes = n.wholes;
+        let mut reals = [0.0f64; 96];
+        let mut wholes = [0u32; 96];
+        lay_table(t, &mut reals, &mut wholes);
         steps::echo::refuses_ofdm(air, &reals, &wholes, c)
     }
 
@@ -207,10 +207,11 @@ impl RateController {
             let air = t.air;
             let c = s.core;
             let accounts = s.accounts;
-            let n = numbers_of(t);
-            let reals = n.reals;
-            let wholes = n.wholes;
-            let books = books_of(accounts);
+            let mut reals = [0.0f64; 96];
+            let mut wholes = [0u32; 96];
+            let mut books = [0.0f64; 96];
+            lay_table(t, &mut reals, &mut wholes);
+            lay_accounts(accounts, &mut books);
             let i = steps::echo::first_place(air, p, &reals, &wholes, &books, c, snr_db);
             First::At(ladder::read::rung_at(t, Place(i)))
         } else {

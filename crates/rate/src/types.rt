@@ -1,5 +1,4 @@
 // What callers hold, and what the calls answer.
-use account::types::Core;
 use account::types::Prices;
 use account::types::State;
 use ladder::types::Rung;
@@ -17,14 +16,6 @@ pub struct RateController {
 // What a changing call leaves and returns: refused or not, and the marks *ended* (a running try was ended) and *begun*.
 pub struct Answer {
     pub controller: RateController,
-    pub verdict: Verdict,
-    pub ended: bool,
-    pub begun: bool,
-}
-
-// What a changing call in place leaves and returns: as an `Answer`, without what the call does not move.
-pub struct Moved {
-    pub core: Core,
     pub verdict: Verdict,
     pub ended: bool,
     pub begun: bool,

@@ -10,14 +10,13 @@ use native.Mathlib.Omega.{arith}
 use native.Mathlib.Decide.{decLt}
 use lib.Dec.{T, ltb, eqb}
 use lib.Ieee.{Float, ofBits, lt, eq}
-use lib.ListN.{length, getD, set, replicate, length-set, List·getD-map}
+use lib.ListN.{length, getD, set, replicate, length-set}
 use lib.Seq.{getD-set-same, getD-set-other}
 use borrow.Author.Tests.{lt-ltb, le-ltb, le-leb, ne-eqb}
 use Rattle.float.specs.Numbers.{f0, f1}
 use Rattle.float.specs.Sum.{total}
 use Rattle.limits.specs.declared.reading.Reading.{Reading}
 use Rattle.limits.specs.declared.reading.Reading.the-variants.{Missing, Value}
-use Rattle.ladder.specs.declared.types.Row.{Row}
 use Rattle.ladder.specs.declared.types.Rung.{Rung}
 use Rattle.ladder.specs.declared.types.Table.{Table}
 use Rattle.ladder.specs.Lists.{every}
@@ -35,7 +34,7 @@ use Rattle.rules.specs.Echo.{observeSnr}
 use Rattle.rules.specs.Booking.{Frame, at, offsetsAt, offsetsAfter, bookFrame, book, ofdm, judgeFamily, airs, callAir, sent, cleanMark, booked}
 use Rattle.rules.specs.Tries.{better, judgeTry, toJudge, judgeSent, judgeAbove, ownFrames, endTry, counted}
 use Rattle.rules.specs.bridges.Sets.{inSet, judgeSet}
-use Rattle.rules.specs.bridges.Tally.{Tally, Marks, addRung, factor, fill, fadesFor, booksBy, offsetsBy, thresholdAt, timesOf, thresholdsOf, priorAt, fadesOf, markFamily, markChoice, familyMark, choiceMark, countOwn, beginTally, bookStep, bookAll, finishBooking}
+use Rattle.rules.specs.bridges.Tally.{Tally, Marks, addRung, factor, fill, fadesFor, booksBy, offsetsBy, priorAt, fadesOf, markFamily, markChoice, familyMark, choiceMark, countOwn, beginTally, bookStep, bookAll, finishBooking}
 use Rattle.rules.specs.Transmission.{judged, inside}
 use Rattle.rules.proofs.Fade.{same-air}
 use Rattle.rules.proofs.Set.{adds, none-in, judge-frames}
@@ -60,8 +59,7 @@ fill-at (suc n) i j g l d h k m =
 
 -- the table's values, and the kept factors, those of their air, if there is one
 record Reads (t : Table) (y : Tally) : Type 0 where
-  times : (r : ℕ) → getD (y .times) r f1 ≡ row t r .time
-  thresholds : (r : ℕ) → thresholdAt (y .thresholds) r ≡ row t r .threshold
+  rows : y .rows ≡ t .rows
   margin : y .margin ≡ t .air .margin
   gain : y .gain ≡ t .air .gain
   count : y .count ≡ t .air .count
@@ -69,10 +67,9 @@ record Reads (t : Table) (y : Tally) : Type 0 where
   kept : T (lt f0 (y .faded)) → (r : ℕ) → r < rungsOf t → getD (y .fades) r f1 ≡ factor (y .faded) (row t r .time)
 
 begin-reads : (t : Table) (s : State) → Reads t (beginTally t (s .accounts) (s .core))
-unfolding beginTally timesOf thresholdsOf ofBits lt
+unfolding beginTally ofBits lt
 begin-reads t s = record {
-  times = λ r. List·getD-map (λ (x : Row). x .time) (t .rows) r noRow;
-  thresholds = λ r. List·getD-map (λ (x : Row). x .threshold) (t .rows) r noRow;
+  rows = refl;
   margin = refl;
   gain = refl;
   count = refl;
@@ -85,15 +82,15 @@ module _ (t : Table) (y : Tally) (reads : Reads t y) (f : Frame) where
   fades-right : (r : ℕ) → r < rungsOf t → getD (fadesOf y f) r f1 ≡ factor (f .air) (row t r .time)
   fades-right r h = go (lt f0 (y .faded)) (eq (f .air) (y .faded)) (reads .kept) (λ j k. same-air (f .air) (y .faded) (row t r .time) j k)
     where
-      new : getD (fadesFor (y .times) (y .count) (f .air)) r f1 ≡ factor (f .air) (row t r .time)
+      new : getD (fadesFor (y .rows) (y .count) (f .air)) r f1 ≡ factor (f .air) (row t r .time)
       new =
-          rw (reads .count)
-          (fill-at (rungsOf t) 0 r (λ i. factor (f .air) (getD (y .times) i f1)) (replicate 32 f0) f1 (omega arith) (omega arith) (omega arith) ∙ ap (factor (f .air)) (reads .times r))
+          rw (reads .count, reads .rows)
+          (fill-at (rungsOf t) 0 r (λ i. factor (f .air) (row t i .time)) (replicate 32 f0) f1 (omega arith) (omega arith) (omega arith))
 
       go : (a b : Bool)
           → (T a → (k : ℕ) → k < rungsOf t → getD (y .fades) k f1 ≡ factor (y .faded) (row t k .time))
           → (T a → T b → factor (y .faded) (row t r .time) ≡ factor (f .air) (row t r .time))
-          → getD (cond (a && b) (y .fades) (fadesFor (y .times) (y .count) (f .air))) r f1 ≡ factor (f .air) (row t r .time)
+          → getD (cond (a && b) (y .fades) (fadesFor (y .rows) (y .count) (f .air))) r f1 ≡ factor (f .air) (row t r .time)
       go true true k e = k tt r h ∙ e tt tt
       go true false k e = new
       go false b k e = new
@@ -101,8 +98,7 @@ module _ (t : Table) (y : Tally) (reads : Reads t y) (f : Frame) where
   step-reads : Reads t (bookStep y f)
   unfolding bookStep
   step-reads = record {
-    times = reads .times;
-    thresholds = reads .thresholds;
+    rows = reads .rows;
     margin = reads .margin;
     gain = reads .gain;
     count = reads .count;
@@ -132,7 +128,7 @@ offsets-step : (t : Table) (y : Tally) → Reads t y → (snr : Reading) (f : Fr
     → offsetsAt t snr fs (offsetsBy (priorAt y (f .rung .0)) (y .floors) snr f o) ≡ offsetsAt t snr (f ∷ fs) o
 unfolding chance
 offsets-step t y reads Missing f fs o = refl
-offsets-step t y reads (Value snr) f fs o = rw (reads .thresholds (f .rung .0), reads .margin, reads .gain, reads .floors) refl
+offsets-step t y reads (Value snr) f fs o = rw (reads .rows, reads .margin, reads .gain, reads .floors) refl
 
 -- the set of the rungs sent, and the count of a try's own frames, up to 3
 abbrev rungsFrom : ℕ → List Frame → ℕ
@@ -194,9 +190,8 @@ marks-step t here f fs m =
 -- what the folds make of a tally; what it keeps for the next frame is no fold's
 abbrev tallied : Table → Tally → List Frame → List Float → Float → Tally
 tallied t y fs fades faded = record {
-  times = y .times;
+  rows = y .rows;
   margin = y .margin;
-  thresholds = y .thresholds;
   gain = y .gain;
   fades = fades;
   faded = faded;

@@ -9,6 +9,7 @@ ghost use Rattle.rules.specs.bridges.Tally.{fadeAt, fadesFor, fadesAt, b
 use crate::types::Frame;
 use account::types::Account;
 use ladder::read::at_most_32;
+use ladder::types::Row;
 use ladder::types::Rung;
 
 // In how many of its own frames' air an account falls to half.
@@ -86,8 +87,8 @@ pub fn book_account(f: Frame, r: Rung, by: f64, a: Account) -> Account
 }
 
 // The factors of all rungs in use, for a frame's air. One is computed anew only where the frame time differs from the rung's before.
-pub fn fades_for(times: [f64; 32], count: u32, air: f64) -> [f64; 32]
-    ensures { λ z. ⌜ z ≡ fadesFor times count air ⌝ }
+pub fn fades_for(rows: [Row; 32], count: u32, air: f64) -> [f64; 32]
+    ensures { λ z. ⌜ z ≡ fadesFor rows count air ⌝ }
 {
     let mut fades = [0.0f64; 32];
     let mut fade = Fade { time: 0.0, by: 1.0 };
@@ -95,7 +96,8 @@ pub fn fades_for(times: [f64; 32], count: u32, air: f64) -> [f64; 32]
     let mut i: u32 = 0;
     while i < rungs {
         let at = i as usize;
-        fade = fade_for(air, times[at], fade);
+        let row = rows[at];
+        fade = fade_for(air, row.time, fade);
         fades[at] = fade.by;
         i += 1;
     }
@@ -103,13 +105,13 @@ pub fn fades_for(times: [f64; 32], count: u32, air: f64) -> [f64; 32]
 }
 
 // The factors for a frame's air: the old ones where it is the air that they are for.
-pub fn fades_at(times: [f64; 32], count: u32, air: f64, last: f64, old: [f64; 32]) -> [f64; 32]
-    ensures { λ z. ⌜ z ≡ fadesAt times count air last old ⌝ }
+pub fn fades_at(rows: [Row; 32], count: u32, air: f64, last: f64, old: [f64; 32]) -> [f64; 32]
+    ensures { λ z. ⌜ z ≡ fadesAt rows count air last old ⌝ }
 {
     if is_same(air, last) {
         return old;
     }
-    fades_for(times, count, air)
+    fades_for(rows, count, air)
 }
 
 // All accounts after a frame, by the factors of its air.

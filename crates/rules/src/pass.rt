@@ -1,6 +1,6 @@
 // The one pass over a transmission's frames, by value: what each frame moves by itself, one covered step a frame.
 ghost use mathlib.Core.Path.{_≡_};
-ghost use Rattle.rules.specs.bridges.Tally.{addRung, thresholdAt, readOf, beginTally, bookStep, bookAll};
+ghost use Rattle.rules.specs.bridges.Tally.{addRung, thresholdAt, beginTally, bookStep, bookAll};
 use crate::accounts::book_accounts;
 use crate::accounts::fades_at;
 use crate::marks::Marks;
@@ -14,23 +14,17 @@ use account::types::Account;
 use account::types::Core;
 use account::types::Offsets;
 use account::types::Trying;
+use ladder::types::Row;
 use ladder::types::Rung;
 use ladder::types::Table;
 use limits::reading::Reading;
-
-// What a pass reads of a table's rows.
-pub struct Rows {
-    pub times: [f64; 32],
-    pub thresholds: [f64; 32],
-}
 
 // What one pass over a transmission's frames needs (of the table, smoothed SNR, the running try, the choice's rung) and gathers: the set of rungs
 // sent, accounts, offsets, the call's air, the try's own frames, up to 3, and the marks. `fades` are the factors for a frame of the air `faded`; an
 // air of 0.0: there are none yet. A number between two arrays has the compiler copy only the arrays that a frame changes.
 pub struct Tally {
-    pub times: [f64; 32],
+    pub rows: [Row; 32],
     pub margin: f64,
-    pub thresholds: [f64; 32],
     pub gain: f64,
     pub fades: [f64; 32],
     pub faded: f64,
@@ -58,31 +52,15 @@ pub fn add_rung(set: u32, r: Rung) -> u32
 }
 
 // A rung's 10 % point; outside the array 0.
-pub fn threshold_at(thresholds: [f64; 32], r: Rung) -> f64
-    ensures { λ z. ⌜ z ≡ thresholdAt thresholds (r .0) ⌝ }
+pub fn threshold_at(rows: [Row; 32], r: Rung) -> f64
+    ensures { λ z. ⌜ z ≡ thresholdAt rows (r .0) ⌝ }
 {
     if r.0 < 32 {
         let at = r.0 as usize;
-        return thresholds[at];
+        let row = rows[at];
+        return row.threshold;
     }
     0.0
-}
-
-// The frame times and thresholds of a table.
-fn read_rows(t: Table) -> Rows
-    ensures { λ z. ⌜ z ≡ readOf t ⌝ }
-{
-    let rows = t.rows;
-    let mut times = [0.0f64; 32];
-    let mut thresholds = [0.0f64; 32];
-    let mut i: usize = 0;
-    while i < 32 {
-        let row = rows[i];
-        times[i] = row.time;
-        thresholds[i] = row.threshold;
-        i += 1;
-    }
-    Rows { times, thresholds }
 }
 
 // What a pass begins with, at accounts and a core whose SNR is smoothed already.
@@ -95,9 +73,7 @@ pub fn begin_tally(t: Table, accounts: [Account; 32], c: Core) -> Tally
     let trying = c.trying;
     let offsets = c.offsets;
     let air = t.air;
-    let rows = read_rows(t);
-    let times = rows.times;
-    let thresholds = rows.thresholds;
+    let rows = t.rows;
     let fades = [0.0f64; 32];
     let marks = Marks {
         ofdm: false,
@@ -106,9 +82,8 @@ pub fn begin_tally(t: Table, accounts: [Account; 32], c: Core) -> Tally
         alone: true,
     };
     Tally {
-        times,
+        rows,
         margin: air.margin,
-        thresholds,
         gain: air.gain,
         fades,
         faded: 0.0,
@@ -134,14 +109,13 @@ pub fn book(t: Tally, f: Frame) -> Tally
     let here = t.here;
     let trying = t.trying;
     let rung = f.rung;
-    let times = t.times;
+    let rows = t.rows;
     let kept = t.fades;
-    let fades = fades_at(times, t.count, f.air, t.faded, kept);
+    let fades = fades_at(rows, t.count, f.air, t.faded, kept);
     let booked = t.accounts;
     let accounts = book_accounts(fades, t.count, f, booked);
-    let thresholds = t.thresholds;
     let prior = Prior {
-        threshold: threshold_at(thresholds, rung),
+        threshold: threshold_at(rows, rung),
         margin: t.margin,
         gain: t.gain,
     };

@@ -4,11 +4,9 @@ use mathlib.Core.Path.{_≡_, refl, sym, ap, _∙_}
 use mathlib.Core.List.{List, [], _∷_}
 use Prim.Native.Nat.{ℕ}
 use lib.Ieee.{Float}
-use lib.ListN.{List·getD-map}
 use Rattle.limits.specs.declared.reading.Reading.{Reading}
-use Rattle.ladder.specs.declared.types.Row.{Row}
 use Rattle.ladder.specs.declared.types.Table.{Table}
-use Rattle.ladder.specs.Types.{rung, row, rungAt, noRow}
+use Rattle.ladder.specs.Types.{rung, rungAt}
 use Rattle.account.specs.declared.types.Account.{Account}
 use Rattle.account.specs.declared.types.Prices.{Prices}
 use Rattle.account.specs.declared.types.State.{State}
@@ -19,7 +17,7 @@ use Rattle.rules.specs.Echo.{observeSnr}
 use Rattle.rules.specs.Booking.{book}
 use Rattle.rules.specs.Tries.{counted, decide}
 use Rattle.rules.specs.bridges.Sets.{judgeSet}
-use Rattle.rules.specs.bridges.Tally.{thresholdAt, thresholdsOf, beginTally, bookStep, bookAll, finishBooking}
+use Rattle.rules.specs.bridges.Tally.{beginTally, bookStep, bookAll, finishBooking}
 use Rattle.rules.specs.Transmission.{inside}
 use Rattle.rules.proofs.Tally.{accounts-booked, pass-inside}
 use Rattle.account.specs.declared.types.Core.{Core}
@@ -29,7 +27,7 @@ use Rattle.steps.specs.bridges.Pass.{Pass, passOf, beginPass, passStep, 
 -- ---- the pass beside the tally
 -- what no frame changes of a tally: the table's values, the core's, and the choice
 record Knows (t : Table) (c : Core) (r : ℕ) (y : Tally) : Type 0 where
-  thresholds : (q : ℕ) → thresholdAt (y .thresholds) q ≡ row t q .threshold
+  rows : y .rows ≡ t .rows
   margin : y .margin ≡ t .air .margin
   gain : y .gain ≡ t .air .gain
   floors : y .floors ≡ t .air .floors
@@ -38,9 +36,9 @@ record Knows (t : Table) (c : Core) (r : ℕ) (y : Tally) : Type 0 where
   here : y .here ≡ rung r
 
 begin-knows : (t : Table) (s : State) → Knows t (s .core) (choice t s) (beginTally t (s .accounts) (s .core))
-unfolding beginTally thresholdsOf
+unfolding beginTally
 begin-knows t s = record {
-  thresholds = λ q. List·getD-map (λ (x : Row). x .threshold) (t .rows) q noRow;
+  rows = refl;
   margin = refl;
   gain = refl;
   floors = refl;
@@ -53,7 +51,7 @@ module _ (t : Table) (c : Core) (r : ℕ) where
   step-knows : (y : Tally) (f : Frame) → Knows t c r y → Knows t c r (bookStep y f)
   unfolding bookStep
   step-knows y f k = record {
-    thresholds = k .thresholds;
+    rows = k .rows;
     margin = k .margin;
     gain = k .gain;
     floors = k .floors;
@@ -68,7 +66,7 @@ module _ (t : Table) (c : Core) (r : ℕ) where
 
   part-step : (y : Tally) (f : Frame) → Knows t c r y → passStep t c r (passOf y) f ≡ passOf (bookStep y f)
   unfolding passStep bookStep
-  part-step y f k = rw (k .thresholds (f .rung .0), k .margin, k .gain, k .floors, k .snr, k .trying, k .here) refl
+  part-step y f k = rw (k .rows, k .margin, k .gain, k .floors, k .snr, k .trying, k .here) refl
 
   parts : (y : Tally) (fs : List Frame) → Knows t c r y → passAll t c r (passOf y) fs ≡ passOf (bookAll y fs)
   parts y [] k = refl

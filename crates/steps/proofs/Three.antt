@@ -10,6 +10,14 @@ use lib.Seq.{getD-set-same, getD-set-other}
 abbrev pub three : {A : Type 0} → List A → ℕ → ℕ → ℕ → A → A → A → List A
 three l p q r x y z = set (set (set l p x) q y) r z
 
+-- a place in a list is in it after a store, and after two
+module _ {A : Type 0} (l : List A) (n p : ℕ) (x : A) (h : n < length l) where
+  pub in-one : n < length (set l p x)
+  in-one = omega (arith, h, length-set l p x)
+
+  pub in-two : (q : ℕ) (y : A) → n < length (set (set l p x) q y)
+  in-two q y = omega (arith, in-one, length-set (set l p x) q y)
+
 module _ {A : Type 0} (l : List A) (p q r : ℕ) (x y z : A) where
   pub three-length : length (three l p q r x y z) ≡ length l
   three-length = length-set (set (set l p x) q y) r z ∙ length-set (set l p x) q y ∙ length-set l p x

@@ -7,7 +7,6 @@ ghost use Rattle.account.specs.State.{noAccount};
 ghost use Rattle.account.specs.Price.{burstOr, value, losslessPrice};
 ghost use Rattle.rules.specs.Echo.{over};
 ghost use Rattle.steps.specs.bridges.Held.{Lent, mark, bound, limitOf, rowsIn, rungIn, laid, accountsOf, rated};
-use crate::types::Numbers;
 use account::types::Account;
 use account::types::Core;
 use account::types::Prices;
@@ -39,40 +38,35 @@ fn bound_of(limit: Reading) -> f64
     }
 }
 
-// A table's numbers.
-pub fn numbers_of(t: Table) -> Numbers
-    ensures { λ n. ⌜ laid (t .air) (n .reals) (n .wholes) ≡ t ⌝ }
+// A table's numbers, over what the slices hold.
+pub fn lay_table(t: Table, reals: &mut [f64], wholes: &mut [u32])
+    requires { ⌜ Lent (now reals) (now wholes) ⌝ }
+    ensures { λ u. ⌜ laid (t .air) (now (reals .exit)) (now (wholes .exit)) ≡ t ⌝ }
 {
-    let rows = t.rows;
-    let front = t.front;
-    let mut reals = [0.0f64; 96];
-    let mut wholes = [0u32; 96];
     for i in 0..32 {
-        let row = rows[i];
+        let row = t.rows[i];
         let limit = row.limit;
         reals[3 * i] = row.threshold;
         reals[3 * i + 1] = row.time;
         reals[3 * i + 2] = bound_of(limit);
-        let r = front[i];
+        let r = t.front[i];
         wholes[i] = r.0;
         wholes[32 + i] = row.capacity;
         wholes[64 + i] = mark_of(limit);
     }
-    Numbers { reals, wholes }
 }
 
 // Accounts as numbers, three a rung: decayed bytes, seconds of air and frames.
-pub fn books_of(accounts: [Account; 32]) -> [f64; 96]
-    ensures { λ r. ⌜ accountsOf r ≡ accounts ⌝ }
+pub fn lay_accounts(accounts: [Account; 32], books: &mut [f64])
+    requires { ⌜ length (now books) ≡ 96 ⌝ }
+    ensures { λ u. ⌜ accountsOf (now (books .exit)) ≡ accounts ⌝ }
 {
-    let mut books = [0.0f64; 96];
     for i in 0..32 {
         let a = accounts[i];
         books[3 * i] = a.bytes;
         books[3 * i + 1] = a.air;
         books[3 * i + 2] = a.frames;
     }
-    books
 }
 
 // ---- reading a table

@@ -1,14 +1,8 @@
 // What the steps hand on.
 use account::types::Core;
 use account::types::Offsets;
+use limits::refusal::Verdict;
 use rules::marks::Marks;
-
-// A table's numbers, laid out to be lent: the reals, three a rung (threshold, frame time, echo limit); and the whole numbers: the front's rungs by place, then the capacities by
-// rung, then a 1 for each rung that has an echo limit.
-pub struct Numbers {
-    pub reals: [f64; 96],
-    pub wholes: [u32; 96],
-}
 
 // What one pass over a transmission's frames gathers beside the accounts: the set of rungs sent, offsets, the call's air, the try's own frames, up to 3, and the marks.
 pub struct Pass {
@@ -22,5 +16,13 @@ pub struct Pass {
 // What `decide` leaves, and whether it began a try.
 pub struct Decision {
     pub core: Core,
+    pub begun: bool,
+}
+
+// What a changing call leaves and returns, without what it does not move: the core, whether it was refused, and the marks.
+pub struct Moved {
+    pub core: Core,
+    pub verdict: Verdict,
+    pub ended: bool,
     pub begun: bool,
 }

@@ -4,7 +4,6 @@ use mathlib.Core.Bool.{false, cond}
 use mathlib.Core.List.{List}
 use Prim.Native.Nat.{ℕ}
 use lib.Dec.{leb, eqb}
-use lib.ListN.{take}
 use Rattle.limits.specs.Refusals.{unless, orElse}
 use Rattle.limits.specs.declared.refusal.Refusal.the-variants.{TooManyFrames, OutsideLimits}
 use Rattle.limits.specs.declared.refusal.Verdict.{Verdict}
@@ -21,7 +20,7 @@ use Rattle.rules.specs.bridges.Check.{beginCheck, checkAll}
 use Rattle.rules.specs.Tries.{Decided}
 use Rattle.steps.specs.bridges.Held.{kept}
 use Rattle.steps.specs.bridges.Pass.{passOf, decidedPass}
-use Rattle.rate.specs.Calls.{RateController, Answer, Frames, done, refused, step}
+use Rattle.rate.specs.Calls.{RateController, Answer, done, refused}
 
 -- "smooth SNR", before anything else
 unfoldable pub smoothed : RateController → Reading → State
@@ -55,7 +54,3 @@ finishFrames k v y snr = answerFrames k v y snr (framesVerdict v snr)
 -- both passes
 abbrev pub observedFrames : RateController → List Frame → Reading → Answer
 observedFrames k fs snr = finishFrames k (checkAll (beginChecks k) fs) (bookAll (beginPass k snr) fs) snr
-
--- the first `count` frames of an array of 256. "256 frames accepted, 257 gives 7": it is `step` of any list whose first 256 the array holds (proofs/Passes.antt)
-unfoldable pub heldFrames : RateController → List Frame → ℕ → Reading → Answer
-heldFrames k frames count snr = cond (leb count 256) (step k (Frames (take count frames) snr)) (refused k (Refused TooManyFrames))

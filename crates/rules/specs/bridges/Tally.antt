@@ -1,7 +1,7 @@
 -- A transmission in one pass: what a pass over the frames needs and gathers, and what one frame does to it. The folds of Booking.antt and Tries.antt are what is
 -- right: proofs/Tally.antt shows that this one fold gives them all. Definitions only.
 use mathlib.Core.Bool.{Bool, true, false, not, _&&_, _||_, cond}
-use mathlib.Core.List.{List, foldl, map}
+use mathlib.Core.List.{List, foldl}
 use Prim.Native.Nat.{ℕ, zero, suc, _^_, min}
 use lib.Bits.{bitOr}
 use lib.Dec.{ltb}
@@ -14,7 +14,7 @@ use Rattle.limits.specs.declared.reading.Reading.the-variants.{Missing, Value}
 use Rattle.ladder.specs.declared.types.Rung.{Rung}
 use Rattle.ladder.specs.declared.types.Table.{Table}
 use Rattle.ladder.specs.declared.types.Row.{Row}
-use Rattle.ladder.specs.Types.{rung, rungAt, placesOf}
+use Rattle.ladder.specs.Types.{rung, rungAt, placesOf, noRow}
 use Rattle.account.specs.declared.types.Account.{Account}
 use Rattle.account.specs.declared.types.Mark.{Mark}
 use Rattle.account.specs.declared.types.Mark.the-variants.{Nowhere, On}
@@ -29,7 +29,6 @@ use Rattle.rules.specs.Booking.{Frame, at, clamp, f12, aged, gained, pas
 pub use Rattle.rules.specs.declared.accounts.Fade.{Fade}
 pub use Rattle.rules.specs.declared.marks.Marks.{Marks}
 pub use Rattle.rules.specs.declared.offsets.Prior.{Prior}
-pub use Rattle.rules.specs.declared.pass.Rows.{Rows}
 pub use Rattle.rules.specs.declared.pass.Tally.{Tally}
 
 -- ---- "32-bit set": with one rung more; a number past 31 is no digit of it
@@ -55,12 +54,12 @@ fill zero i g l = l
 fill (suc n) i g l = fill n (suc i) g (set l i (g i))
 
 -- the factors of all rungs in use, by their frame times
-abbrev pub fadesFor : List Float → ℕ → Float → List Float
-fadesFor times count air = fill (min 32 count) 0 (λ i. factor air (getD times i f1)) (replicate 32 f0)
+abbrev pub fadesFor : List Row → ℕ → Float → List Float
+fadesFor rows count air = fill (min 32 count) 0 (λ i. factor air (getD rows i noRow .time)) (replicate 32 f0)
 
 -- a frame of the last one's air has its factors: the old ones where there is a last air, above 0, and it is the frame's
-abbrev pub fadesAt : List Float → ℕ → Float → Float → List Float → List Float
-fadesAt times count air last old = cond (lt f0 last && eq air last) old (fadesFor times count air)
+abbrev pub fadesAt : List Row → ℕ → Float → Float → List Float → List Float
+fadesAt rows count air last old = cond (lt f0 last && eq air last) old (fadesFor rows count air)
 
 -- all accounts after a frame, n rungs from r on
 unfoldable pub booksBy : ℕ → ℕ → List Float → Frame → List Account → List Account
@@ -81,8 +80,8 @@ offsetsBy p floors Missing f o = o
 offsetsBy p floors (Value snr) f o = familyBy p floors snr f o
 
 -- a rung's 10 % point; outside the array 0
-abbrev pub thresholdAt : List Float → ℕ → Float
-thresholdAt thresholds r = getD thresholds r f0
+abbrev pub thresholdAt : List Row → ℕ → Float
+thresholdAt rows r = getD rows r noRow .threshold
 
 -- ---- marks
 -- "a list with OFDM frames sets the failed mark if none of them is decoded, else clears it": whether one was sent, and whether one was decoded
@@ -110,22 +109,11 @@ abbrev pub countOwn : Trying → Frame → ℕ → ℕ
 countOwn y f n = cond (isOwn y f) (cond (ltb n 3) (suc n) n) n
 
 -- ---- the pass
--- what it reads of the rows
-unfoldable pub timesOf : Table → List Float
-timesOf t = map (λ (r : Row). r .time) (t .rows)
-
-unfoldable pub thresholdsOf : Table → List Float
-thresholdsOf t = map (λ (r : Row). r .threshold) (t .rows)
-
-abbrev pub readOf : Table → Rows
-readOf t = record { times = timesOf t; thresholds = thresholdsOf t }
-
 -- before the first frame; the core's SNR is smoothed already
 unfoldable pub beginTally : Table → List Account → Core → Tally
 beginTally t accounts c = record {
-  times = timesOf t;
+  rows = t .rows;
   margin = t .air .margin;
-  thresholds = thresholdsOf t;
   gain = t .air .gain;
   fades = replicate 32 f0;
   faded = f0;
@@ -144,17 +132,16 @@ beginTally t accounts c = record {
 
 -- what moves the offsets at a rung, and the factors for a frame
 abbrev pub priorAt : Tally → ℕ → Prior
-priorAt y r = record { threshold = thresholdAt (y .thresholds) r; margin = y .margin; gain = y .gain }
+priorAt y r = record { threshold = thresholdAt (y .rows) r; margin = y .margin; gain = y .gain }
 
 abbrev pub fadesOf : Tally → Frame → List Float
-fadesOf y f = fadesAt (y .times) (y .count) (f .air) (y .faded) (y .fades)
+fadesOf y f = fadesAt (y .rows) (y .count) (f .air) (y .faded) (y .fades)
 
 -- one frame
 unfoldable pub bookStep : Tally → Frame → Tally
 bookStep y f = record {
-  times = y .times;
+  rows = y .rows;
   margin = y .margin;
-  thresholds = y .thresholds;
   gain = y .gain;
   fades = fadesOf y f;
   faded = f .air;

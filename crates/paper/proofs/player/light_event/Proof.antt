@@ -1,9 +1,9 @@
 -- `player::light_event` meets its contract: the kind decides, and past the sixth it is a seed. Assumes nothing.
-use mathlib.Core.Path.{refl, sym, _∙_}
+use mathlib.Core.Path.{sym, _∙_}
 use mathlib.Core.List.{[]}
 use borrow.Author.Tests.{eq-eqb, ne-eqb}
 use lib.ListN.{drop}
-use Rattle.rate.proofs.Framing.{silence-moves, snr-moves}
+use Rattle.rate.proofs.Framing.{echo-moved, seed-moved, silence-moved, snr-moved, silence-moves, snr-moves}
 use Rattle.question.specs.Bytes.{le32, readingOf}
 use Rattle.question.specs.Body.{callOf}
 use Rattle.rate.specs.bridges.Playing.{playing}
@@ -35,8 +35,9 @@ returns : tie.Need-returns
 unfolding callOf
 returns c =
     let s = c .before .before .before .before .before .before .before .before .before .before .before in
+    let a = s .args in
     let k = c .before .before .before .before .before .before .byte-at .ensures .0 in
-    rw (s .pre .1 .1, ← k, eq-eqb _ 2 (c .before .before .before .before .before .if1 .taken), c .observe-echo .ensures, c .before .f64-of .ensures, c .before .before .past2 .ensures, c .before .before .before .reading-of .ensures, c .before .before .before .before .past .ensures)
+    rw (s .pre .1 .1, ← k, eq-eqb _ 2 (c .before .before .before .before .before .if1 .taken), c .observe-echo .ensures ∙ echo-moved (laid (a .t) (a .reals .now) (a .wholes .now)) (a .p) (a .c) (a .books .now) (c .before .before .before .reading-of .result) (c .before .f64-of .result), c .before .f64-of .ensures, c .before .before .past2 .ensures, c .before .before .before .reading-of .ensures, c .before .before .before .before .past .ensures)
 
 past-requires-3 : tie.Need-past-requires-3
 past-requires-3 c κs = search needs
@@ -53,7 +54,7 @@ returns-2 c =
     let s = c .before .before .before .before .before .before .before .before .before .before in
     let a = s .args in
     let k = c .before .before .before .before .before .byte-at .ensures .0 in
-    rw (s .pre .1 .1, ← k, ne-eqb _ 2 (c .before .before .before .before .if1 .left), eq-eqb _ 3 (c .before .before .before .if2 .taken), silence-moves (laid (a .t) (a .reals .now) (a .wholes .now)) (a .p) (a .books .now) [] [] (a .c) (le32 (drop 1 (a .body .now))), c .silent .ensures, c .before .u32-of .ensures, c .before .before .past3 .ensures)
+    rw (s .pre .1 .1, ← k, ne-eqb _ 2 (c .before .before .before .before .if1 .left), eq-eqb _ 3 (c .before .before .before .if2 .taken), silence-moves (laid (a .t) (a .reals .now) (a .wholes .now)) (a .p) (a .books .now) [] [] (a .c) (le32 (drop 1 (a .body .now))), c .silent .ensures ∙ silence-moved _ (a .p) _ _, c .before .u32-of .ensures, c .before .before .past3 .ensures)
 
 past-requires-4 : tie.Need-past-requires-4
 past-requires-4 c κs = search needs
@@ -70,7 +71,7 @@ returns-3 c =
     let s = c .before .before .before .before .before .before .before .before .before .before .before in
     let a = s .args in
     let k = c .before .before .before .before .before .before .byte-at .ensures .0 in
-    rw (s .pre .1 .1, ← k, ne-eqb _ 2 (c .before .before .before .before .before .if1 .left), ne-eqb _ 3 (c .before .before .before .before .if2 .left), eq-eqb _ 4 (c .before .before .before .if3 .taken), snr-moves (laid (a .t) (a .reals .now) (a .wholes .now)) (a .p) (a .books .now) [] [] (a .c) (readingOf (drop 1 (a .body .now))), c .observe-snr .ensures (playing (laid (a .t) (a .reals .now) (a .wholes .now)) (a .p) [] [] [] (a .c)) refl, c .before .reading-of2 .ensures, c .before .before .past4 .ensures)
+    rw (s .pre .1 .1, ← k, ne-eqb _ 2 (c .before .before .before .before .before .if1 .left), ne-eqb _ 3 (c .before .before .before .before .if2 .left), eq-eqb _ 4 (c .before .before .before .if3 .taken), snr-moves (laid (a .t) (a .reals .now) (a .wholes .now)) (a .p) (a .books .now) [] [] (a .c) (readingOf (drop 1 (a .body .now))), c .observe-snr .ensures ∙ snr-moved (playing (laid (a .t) (a .reals .now) (a .wholes .now)) (a .p) [] [] [] (a .c)) (c .before .reading-of2 .result), c .before .reading-of2 .ensures, c .before .before .past4 .ensures)
 
 is-pricing-requires : tie.Need-is-pricing-requires
 is-pricing-requires c κs = search needs
@@ -102,7 +103,7 @@ returns-5 c =
     let e2 = ne-eqb _ 2 (c .before .before .before .before .before .before .before .if1 .left) in
     let e3 = ne-eqb _ 3 (c .before .before .before .before .before .before .if2 .left) in
     let e4 = ne-eqb _ 4 (c .before .before .before .before .before .if3 .left) in
-    rw (call-seed (a .body .now) (s .pre .1 .1) (rw (← k) e2) (rw (← k) e3) (rw (← k) e4) (sym (c .before .before .before .before .is-pricing .ensures) ∙ c .before .before .before .if4 .left), c .seed .ensures, c .before .f64-of2 .ensures, c .before .before .past5 .ensures)
+    rw (call-seed (a .body .now) (s .pre .1 .1) (rw (← k) e2) (rw (← k) e3) (rw (← k) e4) (sym (c .before .before .before .before .is-pricing .ensures) ∙ c .before .before .before .if4 .left), c .seed .ensures ∙ seed-moved _ (a .p) _ _ _, c .before .f64-of2 .ensures, c .before .before .past5 .ensures)
 
 pub light-event-spec : {M : Type 1} → statement M
 light-event-spec =

@@ -1,6 +1,6 @@
 -- Each branch gives the test its value in the definition. Assumes nothing.
 use borrow.Author.Tests.{le-leb, lt-leb}
-use Rattle.rate.specs.bridges.Frames.{heldFrames}
+use Rattle.rate.specs.Calls.{heldFrames}
 use borrow.Author.Needs.{needs}
 use Rattle.rate.proofs.frames.observe_held.Statement.{statement}
 use Rattle.rate.proofs.frames.observe_held.Tie as tie

@@ -13,20 +13,20 @@ since-long c = search needs
 wait-long : (c : tie.Start) → length (c .args .k .state .wait) ≡ 32
 wait-long c = search (needs, c .good .0 .1 .1 .1 .1 .0)
 
-reals-long : (c : tie.After-numbers-of) → length (c .numbers-of .result .reals) ≡ 96
-reals-long c = search needs
+slice-aggregate-lay-table : tie.Need-slice-aggregate-lay-table
+slice-aggregate-lay-table c = search needs
 
-wholes-long : (c : tie.After-numbers-of) → length (c .numbers-of .result .wholes) ≡ 96
-wholes-long c = search needs
+slice-aggregate-lay-table-2 : tie.Need-slice-aggregate-lay-table-2
+slice-aggregate-lay-table-2 c = search needs
 
-books-long : (c : tie.After-books-of) → length (c .books-of .result) ≡ 96
-books-long c = search needs
+lay-table-requires : tie.Need-lay-table-requires
+lay-table-requires c κs = search needs
 
-numbers-of-requires : tie.Need-numbers-of-requires
-numbers-of-requires c κs = search needs
+slice-aggregate-lay-accounts : tie.Need-slice-aggregate-lay-accounts
+slice-aggregate-lay-accounts c = search needs
 
-books-of-requires : tie.Need-books-of-requires
-books-of-requires c κs = search needs
+lay-accounts-requires : tie.Need-lay-accounts-requires
+lay-accounts-requires c κs = search needs
 
 observe-snr-requires : tie.Need-observe-snr-requires
 observe-snr-requires c κs = search needs
@@ -35,44 +35,64 @@ pass-of-requires : tie.Need-pass-of-requires
 pass-of-requires c κs = search needs
 
 slice-aggregate-transmit : tie.Need-slice-aggregate-transmit
-slice-aggregate-transmit c = sym (wholes-long (c .before .before .before .before .before .before .before .before .before .before))
+slice-aggregate-transmit c = search needs
 
 slice-aggregate-transmit-2 : tie.Need-slice-aggregate-transmit-2
-slice-aggregate-transmit-2 c = sym (books-long (c .before .before .before .before .before .before .before .before .before))
+slice-aggregate-transmit-2 c = search needs
 
 slice-aggregate-transmit-3 : tie.Need-slice-aggregate-transmit-3
-slice-aggregate-transmit-3 c = sym (since-long (c .before .before .before .before .before .before .before .before .before .before .before .before .before .before .before .before .before .before .before))
+slice-aggregate-transmit-3 c = search needs
 
 slice-aggregate-transmit-4 : tie.Need-slice-aggregate-transmit-4
-slice-aggregate-transmit-4 c = sym (wait-long (c .before .before .before .before .before .before .before .before .before .before .before .before .before .before .before .before .before .before .before .before))
+slice-aggregate-transmit-4 c =
+    let laid = c .before .before .before .before .before .before .before .before .before .before .before .before .before in
+    let s = laid .before .before .before .before .before .before .before .before .before in
+    sym (since-long s)
+
+slice-aggregate-transmit-5 : tie.Need-slice-aggregate-transmit-5
+slice-aggregate-transmit-5 c =
+    let laid = c .before .before .before .before .before .before .before .before .before .before .before .before .before .before in
+    let s = laid .before .before .before .before .before .before .before .before .before in
+    sym (wait-long s)
 
 transmit-requires : tie.Need-transmit-requires
-transmit-requires c κs = (
-  record { of-reals = reals-long (c .before .before .before .before .before .before .before .before .before .before .before .before .before); of-wholes = wholes-long (c .before .before .before .before .before .before .before .before .before .before .before .before .before) },
-  record { of-books = books-long (c .before .before .before .before .before .before .before .before .before .before .before); of-since = since-long (c .before .before .before .before .before .before .before .before .before .before .before .before .before .before .before .before .before .before .before .before); of-wait = wait-long (c .before .before .before .before .before .before .before .before .before .before .before .before .before .before .before .before .before .before .before .before) },
-)
+transmit-requires c κs =
+    let booked = c .before .before .before .before .before .before .before .before .before .before in
+    let laid = booked .before .before .before .before in
+    let s = laid .before .before .before .before .before .before .before .before .before in
+    (record { of-reals = search needs; of-wholes = search needs }, record { of-books = search needs; of-since = since-long s; of-wait = wait-long s })
 
 was-ended-requires : tie.Need-was-ended-requires
 was-ended-requires c κs = search needs
 
 returns : tie.Need-returns
 returns c =
-    let a = c .before .before .before .before .before .before .before .before .before .before .before .before .before .before .before .before .before .before .before .before .before .before .before .before .before .args in
-    let d = c .before .before .before .before .transmit in
-    transmit-front (a .k) (a .y) (a .snr) _ _ (d .last .1 .1 .1 .1 .1 .0) (d .last .1 .1 .1 .1 .1 .1 .0) _ _ (d .result) _ (c .before .before .before .before .before .before .before .before .before .before .before .before .before .before .before .before .before .before .numbers-of .ensures) (c .before .before .before .before .before .before .before .before .before .before .before .before .before .before .before .before .books-of .ensures) (c .before .before .before .before .before .before .before .before .before .before .before .before .before .observe-snr .ensures) (c .before .before .before .before .before .before .before .before .before .before .before .before .pass-of .ensures) (d .ensures) (c .was-ended .ensures)
+    let decided = c .before .before .before .before in
+    let gathered = decided .before .before .before .before .before .before in
+    let smoothed = gathered .before in
+    let booked = smoothed .before .before .before .before in
+    let laid = booked .before .before .before .before in
+    let s = laid .before .before .before .before .before .before .before .before .before in
+    let a = s .args in
+    let d = decided .transmit in
+    transmit-front (a .k) (a .y) (a .snr) _ _ (d .last .1 .1 .1 .1 .1 .0) (d .last .1 .1 .1 .1 .1 .1 .0) _ _ (d .result) _ (laid .lay-table .ensures) (booked .lay-accounts .ensures) (smoothed .observe-snr .ensures) (gathered .pass-of .ensures) (d .ensures) (c .was-ended .ensures)
 
 pub transmit-spec : {M : Type 1} → statement M
 transmit-spec =
     tie.close
     (tie.spec
-    numbers-of-requires
-    books-of-requires
+    slice-aggregate-lay-table
+    slice-aggregate-lay-table-2
+    lay-table-requires
+    slice-aggregate-lay-accounts
+    lay-accounts-requires
     observe-snr-requires
     pass-of-requires
     slice-aggregate-transmit
     slice-aggregate-transmit-2
     slice-aggregate-transmit-3
     slice-aggregate-transmit-4
+    slice-aggregate-transmit-5
     transmit-requires
     was-ended-requires
     returns)

@@ -8,7 +8,9 @@ use native.Mathlib.Omega.{arith}
 use lib.Ieee.{Float, ofBits, lt}
 use lib.ListN.{length, getD, set, replicate, length-set}
 use Rattle.float.specs.Numbers.{f0, f1}
-use Rattle.ladder.proofs.Arrays.{inside}
+use Rattle.ladder.specs.declared.types.Row.{Row}
+use Rattle.ladder.specs.Types.{noRow}
+use Rattle.ladder.proofs.Arrays.{inside, of-parts}
 use Rattle.rules.specs.bridges.Tally.{factor, fill}
 use Rattle.rules.proofs.Fade.{Carried, fade-by, fade-carried}
 use borrow.Author.Needs.{needs}
@@ -21,8 +23,8 @@ unfolding ofBits lt
 none air h = absurd h
 
 -- the factor of a rung
-abbrev by : List Float → Float → ℕ → Float
-by times air i = factor air (getD times i f1)
+abbrev by : List Row → Float → ℕ → Float
+by rows air i = factor air (getD rows i noRow .time)
 
 module _ (g : ℕ → Float) (n i : ℕ) (l : List Float) where
   -- one rung
@@ -38,11 +40,11 @@ module _ (g : ℕ → Float) (n i : ℕ) (l : List Float) where
   done h = let q : n - i ≡ 0 = omega arith in rw q refl
 
 abbrev Inv-loop : tie.InvT-loop
-Inv-loop count air times fades₀ fade₀ rungs i₀ fades fade i =
-    (i ≤ min 32 count) × (length fades ≡ 32) × Carried air fade × (fill (min 32 count - i) i (by times air) fades ≡ fill (min 32 count) 0 (by times air) (replicate 32 f0))
+Inv-loop count air rows fades₀ fade₀ rungs i₀ fades fade i =
+    (i ≤ min 32 count) × (length fades ≡ 32) × Carried air fade × (fill (min 32 count - i) i (by rows air) fades ≡ fill (min 32 count) 0 (by rows air) (replicate 32 f0))
 
 abbrev μ-loop : tie.MeasureT-loop
-μ-loop count air times fades₀ fade₀ rungs i₀ fades fade i = min 32 count - i
+μ-loop count air rows fades₀ fade₀ rungs i₀ fades fade i = min 32 count - i
 
 at-most-32-requires : tie.Need-at-most-32-requires Inv-loop μ-loop
 at-most-32-requires c κs = search needs
@@ -56,11 +58,11 @@ loop-holds c =
 cast-at : tie.Need-cast-at Inv-loop μ-loop
 cast-at c = search needs
 
-mul-fade-for : tie.Need-mul-fade-for Inv-loop μ-loop
-mul-fade-for c = search needs
+mul-row : tie.Need-mul-row Inv-loop μ-loop
+mul-row c = search needs
 
-array-read-fade-for : tie.Need-array-read-fade-for Inv-loop μ-loop
-array-read-fade-for c = search needs
+array-copy-out-row : tie.Need-array-copy-out-row Inv-loop μ-loop
+array-copy-out-row c = search needs
 
 fade-for-requires : tie.Need-fade-for-requires Inv-loop μ-loop
 fade-for-requires c κs = search needs
@@ -79,13 +81,13 @@ loop-less c = search needs
 
 loop-again : tie.Need-loop-again Inv-loop μ-loop
 loop-again c =
-    let s = c .before .before in
+    let s = c .before .before .before in
     let a = s .before .before .args in
     let i = s .loop .i in
     let l = s .loop .fades in
     let d = c .fade-for in
-    let long : length (a .t1) ≡ 32 = search needs in
-    let e : d .result .by ≡ by (a .t1) (a .air) i = fade-by (a .air) _ (s .loop .fade) (s .loop .inv .2) (d .result) (d .ensures) ∙ ap (factor (a .air)) (inside (a .t1) i long _ f1 (omega arith)) in
+    let long : length (a .t1) ≡ 32 = search (needs, of-parts) in
+    let e : d .result .by ≡ by (a .t1) (a .air) i = fade-by (a .air) _ (s .loop .fade) (s .loop .inv .2) (d .result) (d .ensures) ∙ ap (λ (x : Row). factor (a .air) (x .time)) (inside (a .t1) i long _ noRow (omega arith)) in
     (omega arith, length-set l i _ ∙ s .loop .inv .1, fade-carried (a .air) _ (s .loop .fade) (s .loop .inv .2) (d .result) (d .ensures), turn (by (a .t1) (a .air)) (min 32 (a .count)) i l (omega arith) (d .result .by) e ∙ s .loop .inv .3)
 
 returns : tie.Need-returns Inv-loop μ-loop
@@ -103,8 +105,8 @@ fades-for-spec =
     at-most-32-requires
     loop-holds
     cast-at
-    mul-fade-for
-    array-read-fade-for
+    mul-row
+    array-copy-out-row
     fade-for-requires
     mul-fades
     array-write-fades

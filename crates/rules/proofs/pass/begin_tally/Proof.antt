@@ -8,12 +8,9 @@ use Rattle.rules.proofs.pass.begin_tally.Tie as tie
 rung-at-requires : tie.Need-rung-at-requires
 rung-at-requires c κs = search needs
 
-read-rows-requires : tie.Need-read-rows-requires
-read-rows-requires c κs = search needs
-
 returns : tie.Need-returns
 unfolding beginTally
-returns c = rw (c .before .before .read-rows .ensures, ← c .before .before .before .before .before .rung-at .ensures) refl
+returns c = rw (← c .before .before .before .rung-at .ensures) refl
 
 pub begin-tally-spec : {M : Type 1} → statement M
-begin-tally-spec = tie.close (tie.spec rung-at-requires read-rows-requires returns)
+begin-tally-spec = tie.close (tie.spec rung-at-requires returns)

@@ -34,7 +34,7 @@ unfolding bookStep
 returns c =
     let marked = c .before .before .before .before in
     let moved = marked .before .before .before in
-    let booked = moved .before .before .before .before in
+    let booked = moved .before .before .before in
     rw (c .count-own .ensures, c .before .before .before .add-rung .ensures, marked .mark-choice .ensures, marked .before .mark-family .ensures, moved .move-offsets .ensures, moved .before .before .threshold-at .ensures, booked .book-accounts .ensures, booked .before .before .fades-at .ensures) refl
 
 pub book-spec : {M : Type 1} → statement M

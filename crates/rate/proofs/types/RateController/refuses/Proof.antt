@@ -13,15 +13,27 @@ use Rattle.rules.specs.Echo.{allOut, refuses}
 use Rattle.rate.proofs.types.RateController.refuses.Statement.{statement}
 use Rattle.rate.proofs.types.RateController.refuses.Tie as tie
 
+-- of all OFDM rungs one answer is right, and the floor count is one of them
+refused-by : (t k : Table) (s : State) (r : ℕ) (b : Bool) → t ≡ k → b ≡ refuses t (bare (s .core)) (t .air .floors) → ltb r (k .air .floors) ≡ false → b ≡ refuses k s r
+unfolding refuses allOut
+refused-by t k s r b e f g =
+    f ∙ ap (λ (x : Table). refuses x (bare (s .core)) (x .air .floors)) e ∙ rw (g, le-ltb (k .air .floors) (k .air .floors) (omega arith)) refl
+
 is-floor-requires : tie.Need-is-floor-requires
 is-floor-requires c κs = search needs
-
-numbers-of-requires : tie.Need-numbers-of-requires
-numbers-of-requires c κs = search needs
 
 returns : tie.Need-returns
 unfolding refuses
 returns c = rw (← c .before .is-floor .ensures, c .if1 .taken) refl
+
+slice-aggregate-lay-table : tie.Need-slice-aggregate-lay-table
+slice-aggregate-lay-table c = search needs
+
+slice-aggregate-lay-table-2 : tie.Need-slice-aggregate-lay-table-2
+slice-aggregate-lay-table-2 c = search needs
+
+lay-table-requires : tie.Need-lay-table-requires
+lay-table-requires c κs = search needs
 
 slice-aggregate-refuses-ofdm : tie.Need-slice-aggregate-refuses-ofdm
 slice-aggregate-refuses-ofdm c = search needs
@@ -32,17 +44,13 @@ slice-aggregate-refuses-ofdm-2 c = search needs
 refuses-ofdm-requires : tie.Need-refuses-ofdm-requires
 refuses-ofdm-requires c κs = search needs
 
--- of all OFDM rungs one answer is right, and the floor count is one of them
-refused-by : (t k : Table) (s : State) (r : ℕ) (b : Bool) → t ≡ k → b ≡ refuses t (bare (s .core)) (t .air .floors) → ltb r (k .air .floors) ≡ false → b ≡ refuses k s r
-unfolding refuses allOut
-refused-by t k s r b e f g =
-    f ∙ ap (λ (x : Table). refuses x (bare (s .core)) (x .air .floors)) e ∙ rw (g, le-ltb (k .air .floors) (k .air .floors) (omega arith)) refl
-
 returns-2 : tie.Need-returns-2
 returns-2 c =
-    let k = c .before .before .before .before .before .before .before .before .before .before .before .before .args .self in
-    let t = c .before .before .before .before .before .numbers-of .ensures in
-    refused-by _ (k .table) (k .state) (c .before .before .before .before .before .before .before .before .before .before .before .before .args .mode .0) (c .refuses-ofdm .result) t (c .refuses-ofdm .ensures) (sym (c .before .before .before .before .before .before .before .before .is-floor .ensures) ∙ c .before .before .before .before .before .before .before .if1 .left)
+    let laid = c .before .before .before .before .before in
+    let tested = laid .before .before .before .before in
+    let s = tested .before .before .before .before .before in
+    let k = s .args .self in
+    refused-by _ (k .table) (k .state) (s .args .mode .0) (c .refuses-ofdm .result) (laid .lay-table .ensures) (c .refuses-ofdm .ensures) (sym (tested .before .is-floor .ensures) ∙ tested .if1 .left)
 
 pub refuses-spec : {M : Type 1} → statement M
 refuses-spec =
@@ -50,7 +58,9 @@ refuses-spec =
     (tie.spec
     is-floor-requires
     returns
-    numbers-of-requires
+    slice-aggregate-lay-table
+    slice-aggregate-lay-table-2
+    lay-table-requires
     slice-aggregate-refuses-ofdm
     slice-aggregate-refuses-ofdm-2
     refuses-ofdm-requires

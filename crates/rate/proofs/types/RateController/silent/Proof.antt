@@ -5,11 +5,20 @@ use Rattle.rate.proofs.Framing.{silence-front}
 use Rattle.rate.proofs.types.RateController.silent.Statement.{statement}
 use Rattle.rate.proofs.types.RateController.silent.Tie as tie
 
-numbers-of-requires : tie.Need-numbers-of-requires
-numbers-of-requires c κs = search needs
+slice-aggregate-lay-table : tie.Need-slice-aggregate-lay-table
+slice-aggregate-lay-table c = search needs
+
+slice-aggregate-lay-table-2 : tie.Need-slice-aggregate-lay-table-2
+slice-aggregate-lay-table-2 c = search needs
+
+lay-table-requires : tie.Need-lay-table-requires
+lay-table-requires c κs = search needs
 
 slice-aggregate-silent : tie.Need-slice-aggregate-silent
 slice-aggregate-silent c = search needs
+
+slice-aggregate-silent-2 : tie.Need-slice-aggregate-silent-2
+slice-aggregate-silent-2 c = search needs
 
 silent-requires : tie.Need-silent-requires
 silent-requires c κs = search needs
@@ -19,16 +28,19 @@ answer-requires c κs = search needs
 
 returns : tie.Need-returns
 returns c =
-    let k = c .before .before .before .before .before .before .before .before .before .before .before .before .before .args .self in
-    let t = c .before .before .before .before .before .before .before .numbers-of .ensures in
-    c .answer .ensures ∙ silence-front k _ t (c .before .before .before .before .before .before .before .before .before .before .before .before .before .args .steps) _ (c .before .silent .ensures)
+    let laid = c .before .before .before .before .before .before in
+    let s = laid .before .before .before .before .before .before .before in
+    c .answer .ensures ∙ silence-front (s .args .self) _ (laid .lay-table .ensures) (s .args .steps) _ (c .before .silent .ensures)
 
 pub silent-spec : {M : Type 1} → statement M
 silent-spec =
     tie.close
     (tie.spec
-    numbers-of-requires
+    slice-aggregate-lay-table
+    slice-aggregate-lay-table-2
+    lay-table-requires
     slice-aggregate-silent
+    slice-aggregate-silent-2
     silent-requires
     answer-requires
     returns)

@@ -1,5 +1,5 @@
--- `steps::read::numbers_of` meets its contract: each turn lays out a rung's three reals, and a place's rung with a rung's capacity and whether it has a limit. Assumes nothing.
-use mathlib.Core.Path.{_≡_, refl, _∙_}
+-- `steps::read::lay_table` meets its contract: each turn lays out a rung's three reals, and a place's rung with a rung's capacity and whether it has a limit. Assumes nothing.
+use mathlib.Core.Path.{_≡_, refl, sym, _∙_}
 use Prim.Native.Nat.{ℕ, _+_, _-_, _*_, _<_, _≤_}
 use native.Mathlib.Omega.{arith}
 use lib.Ieee.{nan}
@@ -9,37 +9,37 @@ use Rattle.limits.specs.declared.reading.Reading.the-variants.{Missing}
 use Rattle.ladder.specs.declared.types.Row.{Row}
 use Rattle.ladder.specs.Types.{rung, noRow}
 use Rattle.ladder.proofs.Arrays.{inside, of-parts}
-use Rattle.steps.proofs.Three.{three-length}
+use Rattle.steps.proofs.Three.{in-one, in-two, three-length}
 use Rattle.steps.proofs.Laid.{RealsAt, WholesAt, stands, reals-next, wholes-next}
-use Rattle.steps.proofs.read.numbers_of.Statement.{statement}
-use Rattle.steps.proofs.read.numbers_of.Tie as tie
+use Rattle.steps.proofs.read.lay_table.Statement.{statement}
+use Rattle.steps.proofs.read.lay_table.Tie as tie
 
 -- what a read past the array would give
 abbrev unread : Row
 unread = record { threshold = nan; capacity = 0; time = nan; limit = Missing }
 
 abbrev Inv-loop : tie.InvT-loop
-Inv-loop rows front reals₀ wholes₀ i₀ reals wholes i =
-    (i ≤ 32) × (length reals ≡ 96) × (length wholes ≡ 96) × ((j : ℕ) → j < i → RealsAt rows reals j) × ((j : ℕ) → j < i → WholesAt rows front wholes j)
+Inv-loop reals₀ wholes₀ t i₀ reals wholes i =
+    (i ≤ 32) × (length reals ≡ 96) × (length wholes ≡ 96) × ((j : ℕ) → j < i → RealsAt (t .rows) reals j) × ((j : ℕ) → j < i → WholesAt (t .rows) (t .front) wholes j)
 
 abbrev μ-loop : tie.MeasureT-loop
-μ-loop rows front reals₀ wholes₀ i₀ reals wholes i = 32 - i
+μ-loop reals₀ wholes₀ t i₀ reals wholes i = 32 - i
 
 -- how long the table's arrays are
-rows-long : (c : tie.Start Inv-loop μ-loop) → length (c .args .t .rows) ≡ 32
+rows-long : (c : tie.Start Inv-loop μ-loop) → length (c .args .t1 .rows) ≡ 32
 rows-long c = search (needs, of-parts)
 
-front-long : (c : tie.Start Inv-loop μ-loop) → length (c .args .t .front) ≡ 32
+front-long : (c : tie.Start Inv-loop μ-loop) → length (c .args .t1 .front) ≡ 32
 front-long c = search (needs, of-parts)
 
 loop-holds : tie.Need-loop-holds Inv-loop μ-loop
-loop-holds c = (omega arith, refl, refl, λ j h. absurd (omega arith), λ j h. absurd (omega arith))
+loop-holds c = (omega arith, search needs, search needs, λ j h. absurd (omega arith), λ j h. absurd (omega arith))
 
 mul-row : tie.Need-mul-row Inv-loop μ-loop
 mul-row c = search needs
 
-array-copy-out-row : tie.Need-array-copy-out-row Inv-loop μ-loop
-array-copy-out-row c = search needs
+element-copy-out-row : tie.Need-element-copy-out-row Inv-loop μ-loop
+element-copy-out-row c = search needs
 
 mul-reals : tie.Need-mul-reals Inv-loop μ-loop
 mul-reals c = search needs
@@ -47,8 +47,8 @@ mul-reals c = search needs
 mul-reals-2 : tie.Need-mul-reals-2 Inv-loop μ-loop
 mul-reals-2 c = search needs
 
-array-write-reals : tie.Need-array-write-reals Inv-loop μ-loop
-array-write-reals c = search needs
+slice-write-reals : tie.Need-slice-write-reals Inv-loop μ-loop
+slice-write-reals c = search needs
 
 mul-reals-3 : tie.Need-mul-reals-3 Inv-loop μ-loop
 mul-reals-3 c = search needs
@@ -59,8 +59,8 @@ add-reals c = search needs
 mul-reals-4 : tie.Need-mul-reals-4 Inv-loop μ-loop
 mul-reals-4 c = search needs
 
-array-write-reals-2 : tie.Need-array-write-reals-2 Inv-loop μ-loop
-array-write-reals-2 c = search needs
+slice-write-reals-2 : tie.Need-slice-write-reals-2 Inv-loop μ-loop
+slice-write-reals-2 c = let l = c .before .before .loop in in-one (l .reals) _ _ _ (search needs)
 
 bound-of-requires : tie.Need-bound-of-requires Inv-loop μ-loop
 bound-of-requires c κs = search needs
@@ -74,20 +74,20 @@ add-reals-2 c = search needs
 mul-reals-6 : tie.Need-mul-reals-6 Inv-loop μ-loop
 mul-reals-6 c = search needs
 
-array-write-reals-3 : tie.Need-array-write-reals-3 Inv-loop μ-loop
-array-write-reals-3 c = search needs
+slice-write-reals-3 : tie.Need-slice-write-reals-3 Inv-loop μ-loop
+slice-write-reals-3 c = let l = c .before .before .before .loop in in-two (l .reals) _ _ _ (search needs) _ _
 
 mul-r : tie.Need-mul-r Inv-loop μ-loop
 mul-r c = search needs
 
-array-copy-out-r : tie.Need-array-copy-out-r Inv-loop μ-loop
-array-copy-out-r c = search needs
+element-copy-out-r : tie.Need-element-copy-out-r Inv-loop μ-loop
+element-copy-out-r c = search needs
 
 mul-wholes : tie.Need-mul-wholes Inv-loop μ-loop
 mul-wholes c = search needs
 
-array-write-wholes : tie.Need-array-write-wholes Inv-loop μ-loop
-array-write-wholes c = search needs
+slice-write-wholes : tie.Need-slice-write-wholes Inv-loop μ-loop
+slice-write-wholes c = search needs
 
 add-wholes : tie.Need-add-wholes Inv-loop μ-loop
 add-wholes c = search needs
@@ -95,8 +95,8 @@ add-wholes c = search needs
 mul-wholes-2 : tie.Need-mul-wholes-2 Inv-loop μ-loop
 mul-wholes-2 c = search needs
 
-array-write-wholes-2 : tie.Need-array-write-wholes-2 Inv-loop μ-loop
-array-write-wholes-2 c = search needs
+slice-write-wholes-2 : tie.Need-slice-write-wholes-2 Inv-loop μ-loop
+slice-write-wholes-2 c = let l = c .before .before .before .before .loop in in-one (l .wholes) _ _ _ (search needs)
 
 mark-of-requires : tie.Need-mark-of-requires Inv-loop μ-loop
 mark-of-requires c κs = search needs
@@ -107,8 +107,8 @@ add-wholes-2 c = search needs
 mul-wholes-3 : tie.Need-mul-wholes-3 Inv-loop μ-loop
 mul-wholes-3 c = search needs
 
-array-write-wholes-3 : tie.Need-array-write-wholes-3 Inv-loop μ-loop
-array-write-wholes-3 c = search needs
+slice-write-wholes-3 : tie.Need-slice-write-wholes-3 Inv-loop μ-loop
+slice-write-wholes-3 c = let l = c .before .before .before .before .before .loop in in-two (l .wholes) _ _ _ (search needs) _ _
 
 add-i : tie.Need-add-i Inv-loop μ-loop
 add-i c = search needs
@@ -118,7 +118,7 @@ loop-less c = omega arith
 
 loop-again : tie.Need-loop-again Inv-loop μ-loop
 loop-again c =
-    let t = c .before .before .before .before .before .before .before .before .args .t in
+    let t = c .before .before .before .before .before .before .before .before .args .t1 in
     let l = c .before .before .before .before .before .loop in
     let i = l .i in
     let x = c .before .before .bound-of in
@@ -135,45 +135,53 @@ loop-again c =
       wholes-next (t .rows) i a e less (t .front) (l .wholes) r (n .result) (l .inv .2) refl (n .ensures) (l .inv .4),
     )
 
+same-length : tie.Need-same-length Inv-loop μ-loop
+same-length c = c .before .loop .inv .1 ∙ sym (c .before .before .before .before .pre .of-reals)
+
+same-length-2 : tie.Need-same-length-2 Inv-loop μ-loop
+same-length-2 c = c .before .loop .inv .2 ∙ sym (c .before .before .before .before .pre .of-wholes)
+
 returns : tie.Need-returns Inv-loop μ-loop
 returns c =
-    let t = c .before .before .before .before .args .t in
+    let t = c .before .before .before .before .args .t1 in
     let l = c .before .loop in
     stands t (l .reals) (l .wholes) (λ r h. l .inv .3 r (omega arith)) (λ r h. l .inv .4 r (omega arith)) (rows-long (c .before .before .before .before)) (front-long (c .before .before .before .before))
 
-pub numbers-of-spec : {M : Type 1} → statement M
-numbers-of-spec =
+pub lay-table-spec : {M : Type 1} → statement M
+lay-table-spec =
     tie.close
     (tie.spec
     Inv-loop
     μ-loop
     loop-holds
     mul-row
-    array-copy-out-row
+    element-copy-out-row
     mul-reals
     mul-reals-2
-    array-write-reals
+    slice-write-reals
     mul-reals-3
     add-reals
     mul-reals-4
-    array-write-reals-2
+    slice-write-reals-2
     bound-of-requires
     mul-reals-5
     add-reals-2
     mul-reals-6
-    array-write-reals-3
+    slice-write-reals-3
     mul-r
-    array-copy-out-r
+    element-copy-out-r
     mul-wholes
-    array-write-wholes
+    slice-write-wholes
     add-wholes
     mul-wholes-2
-    array-write-wholes-2
+    slice-write-wholes-2
     mark-of-requires
     add-wholes-2
     mul-wholes-3
-    array-write-wholes-3
+    slice-write-wholes-3
     add-i
     loop-less
     loop-again
+    same-length
+    same-length-2
     returns)

@@ -1,14 +1,14 @@
-// The calls that move no array, in place, with their refusals: each promises what `step` of specs/Calls.antt leaves and returns, for the controller that the slices stand
-// for. Inner functions of this repository: they ask that the slices lent are as long as a table's and a state's.
+// The calls that move no array, with their refusals.
 ghost use mathlib.Core.Path.{_≡_};
-ghost use mathlib.Core.List.{[]};
 ghost use lib.ListN.{length};
-ghost use Rattle.limits.specs.declared.refusal.Verdict.the-variants.{Refused};
-ghost use Rattle.steps.specs.bridges.Held.{Lent, laid};
-ghost use Rattle.rate.specs.Calls.{step, okEcho, Echo, Silence, Snr, Seed};
-ghost use Rattle.rate.specs.declared.types.RateController.{RateController};
-ghost use Rattle.rate.specs.bridges.Playing.{playing, movedOf, doneMove, refusedMove};
-use crate::answers::was_ended;
+ghost use Rattle.limits.specs.Refusals.{unless};
+ghost use Rattle.limits.specs.Readings.{okSnr, okEcho};
+ghost use Rattle.limits.specs.Values.{okDb};
+ghost use Rattle.limits.specs.declared.refusal.Refusal.the-variants.{OutsideLimits};
+ghost use Rattle.limits.specs.declared.refusal.Verdict.the-variants.{Accepted, Refused};
+ghost use Rattle.rules.specs.Echo.{observeEcho, silent, seed, observeSnr};
+ghost use Rattle.steps.specs.bridges.Held.{Lent, laid, rated, bare};
+ghost use Rattle.steps.specs.bridges.Moved.{doneMove, refusedMove, movedBy};
 use crate::types::Moved;
 use account::types::Core;
 use account::types::Prices;
@@ -18,28 +18,12 @@ use limits::reading::Reading;
 use limits::refusal::Refusal;
 use limits::refusal::Verdict;
 
-// Whether an echo reading is within its limits; of a missing share the SNR is not looked at.
-fn ok_echo(share: Reading, snr_db: f64) -> bool
-    ensures { λ b. ⌜ b ≡ okEcho share «snr_db» ⌝ }
-{
-    match share {
-        Reading::Missing => true,
-        Reading::Value(x) => {
-            if limits::values::ok_share(x) {
-                limits::values::ok_db(snr_db)
-            } else {
-                false
-            }
-        }
-    }
-}
-
 // Accepted: the core is moved, and the marks say what became of the try that ran before.
 pub fn done(before: Trying, c: Core, begun: bool) -> Moved
     ensures { λ m. ⌜ m ≡ doneMove before c begun ⌝ }
 {
     let after = c.trying;
-    let ended = was_ended(before, after, begun);
+    let ended = account::core::was_ended(before, after, begun);
     Moved {
         core: c,
         verdict: Verdict::Accepted,
@@ -62,24 +46,24 @@ pub fn refused(c: Core, why: Refusal) -> Moved
 
 // Takes an SNR reading and nothing else. Refused: 8.
 pub fn observe_snr(c: Core, snr: Reading) -> Moved
-    ensures { λ m. ⌜ ((k : RateController) → k .state .core ≡ c → m ≡ movedOf (step k (Snr snr))) ⌝ }
+    ensures { λ m. ⌜ m ≡ movedBy c (observeSnr (bare c) snr) (unless (okSnr snr) OutsideLimits) ⌝ }
 {
     if limits::reading::ok_snr(snr) {
         let before = c.trying;
-        return done(before, steps::echo::observe_snr(c, snr), false);
+        return done(before, crate::echo::observe_snr(c, snr), false);
     }
     refused(c, Refusal::OutsideLimits)
 }
 
 // Transmissions went unanswered: a try ends, and the choice steps down.
-pub fn silent(t: Air, p: Prices, reals: &[f64], wholes: &[u32], c: Core, steps: u32) -> Moved
+pub fn silent(t: Air, reals: &[f64], wholes: &[u32], c: Core, steps: u32) -> Moved
     requires { ⌜ Lent (now reals) (now wholes) ⌝ }
-    ensures { λ m. ⌜ m ≡ movedOf (step (playing (laid t (now (reals .entry)) (now (wholes .entry))) p [] [] [] c) (Silence steps)) ⌝ }
+    ensures { λ m. ⌜ m ≡ movedBy c (silent (laid t (now (reals .entry)) (now (wholes .entry))) (bare c) steps) Accepted ⌝ }
 {
     let before = c.trying;
     done(
         before,
-        steps::echo::silent(t, reals, wholes, c, steps),
+        crate::echo::silent(t, reals, wholes, c, steps),
         false,
     )
 }
@@ -96,13 +80,13 @@ pub fn seed(
 ) -> Moved
     requires { ⌜ Lent (now reals) (now wholes) ⌝ }
     requires { ⌜ length (now books) ≡ 96 ⌝ }
-    ensures { λ m. ⌜ m ≡ movedOf (step (playing (laid t (now (reals .entry)) (now (wholes .entry))) p (now (books .entry)) [] [] c) (Seed «snr_db»)) ⌝ }
+    ensures { λ m. ⌜ m ≡ movedBy c (seed (laid t (now (reals .entry)) (now (wholes .entry))) p (rated (now (books .entry)) c) «snr_db») (unless (okDb «snr_db») OutsideLimits) ⌝ }
 {
     if limits::values::ok_db(snr_db) {
         let before = c.trying;
         return done(
             before,
-            steps::echo::seed(t, p, reals, wholes, books, c, snr_db),
+            crate::echo::seed(t, p, reals, wholes, books, c, snr_db),
             false,
         );
     }
@@ -122,13 +106,13 @@ pub fn observe_echo(
 ) -> Moved
     requires { ⌜ Lent (now reals) (now wholes) ⌝ }
     requires { ⌜ length (now books) ≡ 96 ⌝ }
-    ensures { λ m. ⌜ m ≡ movedOf (step (playing (laid t (now (reals .entry)) (now (wholes .entry))) p (now (books .entry)) [] [] c) (Echo share «snr_db»)) ⌝ }
+    ensures { λ m. ⌜ m ≡ movedBy c (observeEcho (laid t (now (reals .entry)) (now (wholes .entry))) p (rated (now (books .entry)) c) share «snr_db») (unless (okEcho share «snr_db») OutsideLimits) ⌝ }
 {
-    if ok_echo(share, snr_db) {
+    if limits::reading::ok_echo(share, snr_db) {
         let before = c.trying;
         return done(
             before,
-            steps::echo::observe_echo(t, p, reals, wholes, books, c, share, snr_db),
+            crate::echo::observe_echo(t, p, reals, wholes, books, c, share, snr_db),
             false,
         );
     }

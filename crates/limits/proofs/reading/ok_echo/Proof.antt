@@ -1,8 +1,8 @@
--- `rate::inplace::ok_echo` meets its contract: by the reading's case, and the tests as each arm found them. Assumes nothing.
+-- `limits::reading::ok_echo` meets its contract: by the reading's case, and the tests as each arm found them. Assumes nothing.
 use mathlib.Core.Path.{refl}
 use borrow.Author.Needs.{needs}
-use Rattle.rate.proofs.inplace.ok_echo.Statement.{statement}
-use Rattle.rate.proofs.inplace.ok_echo.Tie as tie
+use Rattle.limits.proofs.reading.ok_echo.Statement.{statement}
+use Rattle.limits.proofs.reading.ok_echo.Tie as tie
 
 enum-told : tie.Need-enum-told
 enum-told c = search needs

@@ -1,8 +1,8 @@
--- `rate::inplace::done` meets its contract: the mark is the one that was asked for. Assumes nothing.
+-- `steps::calls::done` meets its contract: the mark is the one that was asked for. Assumes nothing.
 use mathlib.Core.Path.{refl}
 use borrow.Author.Needs.{needs}
-use Rattle.rate.proofs.inplace.done.Statement.{statement}
-use Rattle.rate.proofs.inplace.done.Tie as tie
+use Rattle.steps.proofs.calls.done.Statement.{statement}
+use Rattle.steps.proofs.calls.done.Tie as tie
 
 was-ended-requires : tie.Need-was-ended-requires
 was-ended-requires c κs = search needs
