@@ -21,7 +21,7 @@ use limits::reading::Reading;
 
 // What one pass over a transmission's frames needs (of the table, smoothed SNR, the running try, the choice's rung) and gathers: the set of rungs
 // sent, accounts, offsets, the call's air, the try's own frames, up to 3, and the marks. `fades` are the factors for a frame of the air `faded`; an
-// air of 0.0: there are none yet. A number between two arrays has the compiler copy only the arrays that a frame changes.
+// air of 0.0: there are none yet.
 pub struct Tally {
     pub rows: [Row; 32],
     pub margin: f64,
