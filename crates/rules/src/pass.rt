@@ -1,6 +1,6 @@
 // The one pass over a transmission's frames, by value: what each frame moves by itself, one covered step a frame.
 ghost use mathlib.Core.Path.{_≡_};
-ghost use Rattle.rules.specs.bridges.Tally.{addRung, thresholdAt, beginTally, bookStep, bookAll};
+ghost use Rattle.rules.specs.bridges.Tally.{addRung, beginTally, bookStep, bookAll};
 use crate::accounts::book_accounts;
 use crate::accounts::fades_at;
 use crate::marks::Marks;
@@ -49,18 +49,6 @@ pub fn add_rung(set: u32, r: Rung) -> u32
         return set | (1 << r.0);
     }
     set
-}
-
-// A rung's 10 % point; outside the array 0.
-pub fn threshold_at(rows: [Row; 32], r: Rung) -> f64
-    ensures { λ z. ⌜ z ≡ thresholdAt rows (r .0) ⌝ }
-{
-    if r.0 < 32 {
-        let at = r.0 as usize;
-        let row = rows[at];
-        return row.threshold;
-    }
-    0.0
 }
 
 // What a pass begins with, at accounts and a core whose SNR is smoothed already.
@@ -114,8 +102,14 @@ pub fn book(t: Tally, f: Frame) -> Tally
     let fades = fades_at(rows, t.count, f.air, t.faded, kept);
     let booked = t.accounts;
     let accounts = book_accounts(fades, t.count, f, booked);
+    let mut threshold = 0.0;
+    if rung.0 < 32 {
+        let at = rung.0 as usize;
+        let row = rows[at];
+        threshold = row.threshold;
+    }
     let prior = Prior {
-        threshold: threshold_at(rows, rung),
+        threshold,
         margin: t.margin,
         gain: t.gain,
     };
