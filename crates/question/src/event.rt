@@ -6,6 +6,8 @@ ghost use Rattle.rate.specs.Calls.{step, Frames, Echo, Silence, Snr, Seed, Pric
 ghost use Rattle.question.specs.Bytes.{byte, le32, float, readingOf};
 ghost use Rattle.question.specs.Body.{framesIn, burstsIn, callOf};
 use crate::body::bursts_of;
+use crate::body::frame_count;
+use crate::body::frame_of;
 use crate::body::frames_of;
 use crate::bytes::byte_at;
 use crate::bytes::f64_of;
@@ -16,11 +18,14 @@ use limits::refusal::Refusal;
 use rate::types::Answer;
 use rate::types::RateController;
 
-// Kind 1. Refused: 6, 7, 8.
+// Kind 1. Refused: 6, 7, 8. A transmission mostly has one frame, and an array of 256 is 6 KB, copied each time that it is handed on.
 fn frames_event(k: RateController, body: &[u8]) -> Answer
     ensures { λ r. ⌜ r ≡ step k (Frames (framesIn (now (body .entry))) (readingOf (drop 1 (now (body .entry))))) ⌝ }
 {
     let snr = reading_of(past(body, 1));
+    if frame_count(body) == 1 {
+        return k.observe_frame(frame_of(past(body, 10)), snr);
+    }
     let batch = frames_of(body);
     let frames = batch.frames;
     let count = batch.count as usize;

@@ -1,6 +1,7 @@
 // `observe_frames`: two thin passes over the frames lent, one that checks them and one that books them, and one answer from what both found.
 ghost use mathlib.Core.Path.{_≡_};
 ghost use mathlib.Core.Bool.{false};
+ghost use mathlib.Core.List.{[], _∷_};
 ghost use Prim.Native.Nat.{_≤_};
 ghost use lib.ListN.{take};
 ghost use Rattle.limits.specs.Refusals.{unless};
@@ -177,6 +178,23 @@ fn lend_frames(k: RateController, frames: [Frame; 256], n: usize, snr: Reading) 
     ensures { λ r. ⌜ r ≡ step k (Frames (take n frames) snr) ⌝ }
 {
     k.observe_frames(&frames[..n], snr)
+}
+
+// The first n frames of an array of one, lent.
+fn lend_one(k: RateController, frames: [Frame; 1], n: usize, snr: Reading) -> Answer
+    requires { ⌜ n ≤ 1 ⌝ }
+    ensures { λ r. ⌜ r ≡ step k (Frames (take n frames) snr) ⌝ }
+{
+    k.observe_frames(&frames[..n], snr)
+}
+
+impl RateController {
+    // A transmission of one frame, for a caller that holds it by itself. Refused: 6, 8.
+    pub fn observe_frame(self, frame: Frame, snr: Reading) -> Answer
+        ensures { λ r. ⌜ r ≡ step self (Frames (frame ∷ []) snr) ⌝ }
+    {
+        lend_one(self, [frame; 1], 1, snr)
+    }
 }
 
 // `observe_frames` for a caller that holds its frames in an array, `count` of them; over 256 have no room in it. Refused: 6, 7, 8.

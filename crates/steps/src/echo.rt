@@ -127,7 +127,7 @@ fn obey_echo(t: Air, p: Prices, reals: &[f64], wholes: &[u32], books: &[f64], c:
 }
 
 // A frame's echo reading: a missing share, or an SNR under -6 dB, changes nothing.
-pub fn observe_echo(
+pub(crate) fn observe_echo(
     t: Air,
     p: Prices,
     reals: &[f64],
@@ -170,7 +170,7 @@ fn highest_from(t: Air, reals: &[f64], wholes: &[u32], c: Core, top: u32) -> u32
 }
 
 // A transmission went unanswered: a try ends, and the choice steps down.
-pub fn silent(t: Air, reals: &[f64], wholes: &[u32], c: Core, steps: u32) -> Core
+pub(crate) fn silent(t: Air, reals: &[f64], wholes: &[u32], c: Core, steps: u32) -> Core
     requires { ⌜ Lent (now reals) (now wholes) ⌝ }
     ensures { λ z. ⌜ z ≡ silent (laid t (now (reals .entry)) (now (wholes .entry))) (bare c) steps .core ⌝ }
 {
@@ -199,7 +199,7 @@ pub fn first_place(
 }
 
 // Starts from a reading, unless an SNR is known.
-pub fn seed(
+pub(crate) fn seed(
     t: Air,
     p: Prices,
     reals: &[f64],
