@@ -9,7 +9,7 @@ ghost use Rattle.limits.specs.Readings.{okSnr};
 ghost use Rattle.limits.specs.declared.refusal.Refusal.the-variants.{OutsideLimits};
 ghost use Rattle.steps.specs.bridges.Pass.{passOf};
 ghost use Rattle.rate.specs.Calls.{step, Frames, done, heldFrames};
-ghost use Rattle.rate.specs.bridges.Frames.{smoothed, beginPass, beginChecks, framesVerdict, transmitted, acceptFrames, finishFrames};
+ghost use Rattle.rate.specs.bridges.Frames.{smoothed, beginPass, beginChecks, framesVerdict, transmitted, finishFrames};
 use crate::answers::answer;
 use crate::types::Answer;
 use crate::types::RateController;

@@ -20,7 +20,7 @@ use Rattle.limits.specs.declared.reading.Reading.the-variants.{Missing, Value}
 use Rattle.ladder.specs.declared.types.Rung.{Rung}
 use Rattle.ladder.specs.declared.types.Table.{Table}
 use Rattle.ladder.specs.Lists.{every}
-use Rattle.ladder.specs.Types.{row, noRow, rungsOf, isFloor}
+use Rattle.ladder.specs.Types.{row, rungsOf, isFloor}
 use Rattle.account.specs.declared.types.Account.{Account}
 use Rattle.account.specs.declared.types.Offsets.{Offsets}
 use Rattle.account.specs.declared.types.Prices.{Prices}
