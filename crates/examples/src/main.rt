@@ -3,6 +3,7 @@
 // answers. For each it writes the name; the sheet, or `refused` and the number; and `marks`, with right and counted, or `refused` and the number.
 // The file stdout, which the gate holds this program to, was written from document 01 by hand, but for the papers whose names begin with `recorded`: those
 // sheets are the Rust's.
+#![tactic(auto)]
 ghost use Rattle.std.specs.Prelude.{◌≤◌, length};
 
 use libc::{STDIN_FILENO, STDOUT_FILENO};

@@ -5,7 +5,7 @@ ghost use Rattle.half.specs.Logistic.{exp, decode_probability, ok_arguments, pro
 use limits::refusal::Refusal;
 
 // What `decode_probability` answers.
-#[derive(Drop)]
+#[derive(Clone, Copy)]
 pub enum Probability {
     Refused(Refusal),
     Of(f64),

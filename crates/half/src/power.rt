@@ -376,7 +376,7 @@ fn inverse_power(n: usize) -> f64
 }
 
 // What the steps take off t: `whole` by the whole steps, `part` / 256 by the others, and what is left.
-#[derive(Drop)]
+#[derive(Clone, Copy)]
 struct Taken {
     whole: usize,
     part: usize,

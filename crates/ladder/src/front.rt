@@ -12,7 +12,7 @@ use limits::refusal::{Refusal, Verdict};
 pub const DATA_HEADER: u32 = 3;
 
 // The front, or why there is none: then it has no rung.
-#[derive(Drop)]
+#[derive(Clone, Copy)]
 pub struct Usable {
     pub verdict: Verdict,
     pub front: Front,

@@ -20,7 +20,7 @@ pub const WIDE_PRIOR_MARGIN_DB: f64 = 1.0;
 pub const WIDE_FAMILY_GAIN_DB: f64 = 1.0;
 
 // The table, or why there is none: then it has no rung and no place.
-#[derive(Drop)]
+#[derive(Clone, Copy)]
 pub struct Tabled {
     pub verdict: Verdict,
     pub table: Table,

@@ -2,15 +2,15 @@
 use limits::reading::Reading;
 
 // A rung of the ladder by its number in the table: the source's mode.
-#[derive(Drop)]
+#[derive(Clone, Copy)]
 pub struct Rung(pub u32);
 
 // A place on the front: the source's index. The rung there is `front[place]`.
-#[derive(Drop)]
+#[derive(Clone, Copy)]
 pub struct Place(pub u32);
 
 // One rung's row: its 10 % point in dB, a frame's data bytes, a frame's air in seconds, and the echo share that it cannot carry.
-#[derive(Drop)]
+#[derive(Clone, Copy)]
 pub struct Row {
     pub threshold: f64,
     pub capacity: u32,
@@ -19,7 +19,7 @@ pub struct Row {
 }
 
 // A front: the rungs of the first `count` entries, from the lowest to the highest.
-#[derive(Drop)]
+#[derive(Clone, Copy)]
 pub struct Front {
     pub rungs: [Rung; 32],
     pub count: u32,
@@ -27,7 +27,7 @@ pub struct Front {
 
 // The small facts of an air's table: how many rows are in use, how many of the rungs, the first ones, are floor, and how many places the front has.
 // `margin` and `gain` are the settings of the prior: how far under the reading it is read, and how far a frame moves its family's offset.
-#[derive(Drop)]
+#[derive(Clone, Copy)]
 pub struct Air {
     pub count: u32,
     pub floors: u32,
@@ -37,7 +37,7 @@ pub struct Air {
 }
 
 // An air's table: the rows by rung, the front by place, and all that is no array.
-#[derive(Drop)]
+#[derive(Clone, Copy)]
 pub struct Table {
     pub rows: [Row; 32],
     pub front: [Rung; 32],

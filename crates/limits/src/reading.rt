@@ -4,7 +4,7 @@ ghost use Rattle.limits.specs.Readings.{ok_limit, ok_snr, ok_echo};
 
 use crate::values::{ok_db, ok_share};
 
-#[derive(Drop)]
+#[derive(Clone, Copy)]
 pub enum Reading {
     Missing,
     Value(f64),

@@ -2,7 +2,7 @@
 ghost use Rattle.std.specs.Prelude.{◌≡◌};
 ghost use Rattle.limits.specs.Refusals.{refusal_number, or_else};
 
-#[derive(Drop)]
+#[derive(Clone, Copy)]
 pub enum Refusal {
     // A table column has 0 or over 32 entries (echo column: over 32).
     ColumnSize,
@@ -35,7 +35,7 @@ pub enum Refusal {
 }
 
 // What a call says of its arguments.
-#[derive(Drop)]
+#[derive(Clone, Copy)]
 pub enum Verdict {
     Accepted,
     Refused(Refusal),

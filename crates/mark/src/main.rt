@@ -1,5 +1,6 @@
 // Marks a paper: prints how many of the answers are right and how many count, or `refused` and the number. Its arguments name the question file and the
 // file of answers, one byte an event. A file that cannot be read is named on standard error, and nothing is printed.
+#![tactic(auto)]
 use libc::{STDERR_FILENO, STDOUT_FILENO};
 use paper::types::{Marked, Score};
 

@@ -19,14 +19,14 @@ use rules::check::Check;
 use steps::types::{Moved, Pass};
 
 // What a pass over a body's frames gathered, and the air of the last one, which the factors kept are for.
-#[derive(Drop)]
+#[derive(Clone, Copy)]
 pub struct Booked {
     pub pass: Pass,
     pub faded: f64,
 }
 
 // What an event left and returned, and the air that the factors kept are for.
-#[derive(Drop)]
+#[derive(Clone, Copy)]
 pub struct Played {
     pub moved: Moved,
     pub faded: f64,

@@ -8,7 +8,7 @@ use ladder::types::Rung;
 use rate::types::Probing;
 
 // The choice, or the number of the refusal; the tried rung, or 0; and the marks: 16 refused, 8 a rung is tried, 4 OFDM refused, 2 ended, 1 begun.
-#[derive(Drop)]
+#[derive(Clone, Copy)]
 pub struct Outcome {
     pub number: u32,
     pub tried: u32,

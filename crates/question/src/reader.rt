@@ -5,7 +5,7 @@ ghost use Rattle.question.specs.File.{event_count, body_at, at_end};
 
 use crate::file::{body_at, end_at};
 
-#[derive(Drop)]
+#[derive(Clone, Copy)]
 pub struct Reader<'a> {
     pub file: &'a [u8],
     pub next: u32,

@@ -4,7 +4,7 @@ use ladder::types::{Rung, Table};
 use limits::refusal::{Refusal, Verdict};
 
 // A controller: its table, the prices set, and what the calls move.
-#[derive(Drop)]
+#[derive(Clone, Copy)]
 pub struct RateController {
     pub table: Table,
     pub prices: Prices,
@@ -12,7 +12,7 @@ pub struct RateController {
 }
 
 // What a changing call leaves and returns: refused or not, and the marks *ended* (a running try was ended) and *begun*.
-#[derive(Drop)]
+#[derive(Clone, Copy)]
 pub struct Answer {
     pub controller: RateController,
     pub verdict: Verdict,
@@ -21,28 +21,28 @@ pub struct Answer {
 }
 
 // What `value` and `estimate` answer.
-#[derive(Drop)]
+#[derive(Clone, Copy)]
 pub enum Rated {
     Refused(Refusal),
     Of(f64),
 }
 
 // What `first_mode` answers.
-#[derive(Drop)]
+#[derive(Clone, Copy)]
 pub enum First {
     Refused(Refusal),
     At(Rung),
 }
 
 // The rung being tried, if one is.
-#[derive(Drop)]
+#[derive(Clone, Copy)]
 pub enum Probing {
     Nothing,
     At(Rung),
 }
 
 // What `for_table` answers: where it is refused the controller is one of no table.
-#[derive(Drop)]
+#[derive(Clone, Copy)]
 pub struct Made {
     pub verdict: Verdict,
     pub controller: RateController,

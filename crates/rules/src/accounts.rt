@@ -17,7 +17,7 @@ const HALF_LIFE: f64 = 12.0;
 pub const OWN_FADE: f64 = 0.9438743126816935;
 
 // The factor that rungs of one frame time age by. A time of 0.0: there is none yet.
-#[derive(Drop)]
+#[derive(Clone, Copy)]
 pub struct Fade {
     pub time: f64,
     pub by: f64,

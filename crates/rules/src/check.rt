@@ -10,7 +10,7 @@ use limits::refusal::{Refusal, Verdict};
 const OVER: u32 = 257;
 
 // How many rungs the table has, the frames seen, up to 257, and the first bad frame's verdict.
-#[derive(Drop)]
+#[derive(Clone, Copy)]
 pub struct Check {
     pub rungs: u32,
     pub count: u32,

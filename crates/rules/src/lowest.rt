@@ -5,7 +5,7 @@ ghost use Rattle.rules.specs.Lowest.{Found, beats, best_place};
 use ladder::types::Place;
 
 // The best place found so far, and its value.
-#[derive(Drop)]
+#[derive(Clone, Copy)]
 pub enum Best {
     NoneYet,
     Found(Place, f64),

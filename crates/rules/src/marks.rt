@@ -7,7 +7,7 @@ use account::types::Mark;
 use ladder::types::Rung;
 
 // Whether an OFDM frame was sent, whether one was decoded, whether a frame went at the choice, and whether each of those was decoded alone.
-#[derive(Drop)]
+#[derive(Clone, Copy)]
 pub struct Marks {
     pub ofdm: bool,
     pub heard: bool,

@@ -14,7 +14,7 @@ const OFFSET_MIN: f64 = -5.0;
 const OFFSET_MAX: f64 = 20.0;
 
 // What moves an offset at a rung: the rung's 10 % point, and the table's margin and gain.
-#[derive(Drop)]
+#[derive(Clone, Copy)]
 pub struct Prior {
     pub threshold: f64,
     pub margin: f64,

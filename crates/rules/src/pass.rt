@@ -14,7 +14,7 @@ use limits::reading::Reading;
 // What one pass over a transmission's frames needs (of the table, smoothed SNR, the running try, the choice's rung) and gathers: the set of rungs
 // sent, accounts, offsets, the call's air, the try's own frames, up to 3, and the marks. `fades` are the factors for a frame of the air `faded`; an
 // air of 0.0: there are none yet.
-#[derive(Drop)]
+#[derive(Clone, Copy)]
 pub struct Tally {
     pub rows: [Row; 32],
     pub margin: f64,

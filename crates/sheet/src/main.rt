@@ -1,4 +1,5 @@
 // Prints the sheet of the question file on standard input, or `refused` and the number. All that matters is in the crate paper.
+#![tactic(auto)]
 use libc::{STDIN_FILENO, STDOUT_FILENO};
 use question::bytes::part;
 

@@ -3,6 +3,7 @@
 // and echo limits, a byte 0 or 1 and an f64 each. For each a line is written: `front` and the rungs of the table that `table_for` makes, or `refused` and
 // the number; then `usable` and the rungs that `usable_modes_by_rate` answers, or its number. What the Rust and the judge's reading of document 01
 // answered is in the file stdout, which the gate holds this program to.
+#![tactic(auto)]
 ghost use Rattle.std.specs.Prelude.{◌<◌, ◌≤◌};
 
 use ladder::front::Usable;
@@ -16,7 +17,7 @@ use limits::refusal::Verdict;
 const HEAD: usize = 10;
 
 // Where the columns of a record begin, and where it ends.
-#[derive(Drop)]
+#[derive(Clone, Copy)]
 struct Places {
     payloads: usize,
     capacities: usize,

@@ -2,6 +2,7 @@
 // the whole state. Standard input has lists one after the other, little-endian: u32 rungs, floor rungs, wide (1 or 0), echo limits given; per rung
 // threshold f64, payload u32, capacity u32, frame time f64; the limits as readings; u32 calls, and each call as u32 length and a body in the question
 // file's own form. What the Rust answered is in the file stdout, which the gate holds this program to.
+#![tactic(auto)]
 ghost use Rattle.std.specs.Prelude.{◌≡◌, ◌≤◌, length};
 
 use account::types::{Core, Mark, Trying};
@@ -20,7 +21,7 @@ const RUNG: usize = 24;
 const READING: usize = 9;
 
 // ---- a line of output, held until it is whole
-#[derive(Drop)]
+#[derive(Clone, Copy)]
 struct Text {
     bytes: [u8; 96],
     len: usize,

@@ -1,0 +1,16 @@
+use mathlib.Core.Path.{refl}
+use mathlib.Core.List.{[]}
+use Prim.Native.Nat.{◌-◌}
+use native.Mathlib.Omega.{arith}
+use lib.ListN.{replicate}
+use borrow.Author.Rules.{rules}
+use Rattle.ladder.specs.Tables.{columns, row_of, rows_of}
+use Rattle.ladder.proofs.Tabulating.{Tabulating, tabulating_starts, tabulating_stores, tabulating_ends}
+use Rattle.ladder.proofs.table.rows_of.Given as goal
+
+abbrev pub invariant-loop-r : goal.invariant-loop-r
+invariant-loop-r l =
+    Tabulating (row_of (columns l.thresholds [] l.capacities l.times 0 l.limits l.limited)) 32 l.r l.rows
+
+abbrev pub decreases-loop-r : goal.decreases-loop-r
+decreases-loop-r l = 32 - l.r
