@@ -38,7 +38,7 @@ pub returns-then-not-ok_limit : goal.returns-then-not-ok_limit
 returns-then-not-ok_limit c =
     let s = c in
     let a = s.args in
-    stops a.t1 a.limited s.loop-i.i (search rules) (search rules) c.ok_limit.result (search rules) c.ok_limit.ensures c.if-not-ok_limit.true ∙ s.loop-i.invariant
+    stops a.column a.limited s.loop-i.i (search rules) (search rules) c.ok_limit.result (search rules) c.ok_limit.ensures (ap not c.if-not-ok_limit.true) ∙ s.loop-i.invariant
 
 pub loop-i-smaller : goal.loop-i-smaller
 loop-i-smaller c = omega arith
@@ -47,10 +47,10 @@ pub loop-i-preserved : goal.loop-i-preserved
 loop-i-preserved c =
     let s = c in
     let a = s.args in
-    goes_on a.t1 a.limited s.loop-i.i (search rules) (search rules) c.ok_limit.result (search rules) c.ok_limit.ensures c.if-not-ok_limit.false ∙ s.loop-i.invariant
+    goes_on a.column a.limited s.loop-i.i (search rules) (search rules) c.ok_limit.result (search rules) c.ok_limit.ensures (ap not c.if-not-ok_limit.false) ∙ s.loop-i.invariant
 
 pub returns : goal.returns
 returns c =
     let s = c in
     let a = s.args in
-    ends a.t1 a.limited s.loop-i.i (search rules) (search rules) (search rules) ∙ s.loop-i.invariant
+    ends a.column a.limited s.loop-i.i (search rules) (search rules) (search rules) ∙ s.loop-i.invariant
