@@ -1,7 +1,7 @@
 -- The air of a full transmission is finite and at least 0, for a burst count up to 1,000 and a frame time within its limits; a wait of up to 48 of them is at
 -- least 0. Assumes nothing.
 use mathlib.Core.Path.{subst}
-use Rattle.core.specs.Prelude.{ℕ, ◌<◌, ◌≤◌, false, T, ltb, get_or}
+use Rattle.std.specs.Prelude.{ℕ, ◌<◌, ◌≤◌, false, T, ltb, get_or}
 use native.Mathlib.Omega.{arith}
 use lib.Dec.{ltb→lt}
 use lib.Pow.{pow_pos}

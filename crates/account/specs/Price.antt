@@ -1,5 +1,5 @@
 -- "Accounts, prior and price". Definitions only.
-use Rattle.core.specs.Prelude.{ℕ, Bool, cond, not, ◌&&◌, ◌==◌, nat_lt, slice_index}
+use Rattle.std.specs.Prelude.{ℕ, Bool, cond, not, ◌&&◌, ◌==◌, nat_lt, slice_index}
 use Rattle.std.specs.Prelude.{Float}
 use Rattle.float.specs.Numbers.{◌⊕◌, ◌⊖◌, ◌⊗◌, ◌⊘◌, of_nat, f0, f½, f2}
 use Rattle.half.specs.Logistic.{decode_probability}

@@ -1,6 +1,6 @@
 -- What a controller holds beside its table: how it is read, changed and fresh. There is no record update in antt, so each field that a step changes has its `with`.
 -- Definitions only.
-use Rattle.core.specs.Prelude.{ℕ, Bool, true, false, List, replicate, slice_index_or, slice_set}
+use Rattle.std.specs.Prelude.{ℕ, Bool, true, false, List, replicate, slice_index_or, slice_set}
 use Rattle.std.specs.Prelude.{Float}
 use Rattle.float.specs.Numbers.{f0}
 use Rattle.limits.specs.declared.reading.Reading.{Reading}

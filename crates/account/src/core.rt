@@ -1,5 +1,5 @@
 // All of a state that is no array: with one part changed, fresh, and made anew.
-ghost use Rattle.core.specs.Prelude.{◌≡◌, not, ◌&&◌, ◌||◌};
+ghost use Rattle.std.specs.Prelude.{◌≡◌, not, ◌&&◌, ◌||◌};
 ghost use Rattle.account.specs.State.{runs, core_with_trying, core_with_snr, core_with_echo, core_with_place, fresh_core};
 
 use crate::types::{Core, Mark, Offsets, Trying};

@@ -1,5 +1,5 @@
 // What a rung is rated by. The formulas take small values: whoever holds a table and a state, by value or in slices, reads them there.
-ghost use Rattle.core.specs.Prelude.{◌≡◌, if◌then◌else◌, slice_index};
+ghost use Rattle.std.specs.Prelude.{◌≡◌, if◌then◌else◌, slice_index};
 ghost use Rattle.float.specs.Numbers.{◌⊗◌, ◌⊘◌, of_nat};
 ghost use Rattle.account.specs.Price.{chance_at, prior_of, estimate_of, control, burst_or, overhead_of, priced_of};
 ghost use Rattle.account.specs.bridges.Rated.{estimate_by, price_by, value_by, lossless_by};

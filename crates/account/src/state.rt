@@ -1,5 +1,5 @@
 // How the state is read and fresh. Outside the arrays the source's own defaults are read, so each function is total.
-ghost use Rattle.core.specs.Prelude.{◌≡◌};
+ghost use Rattle.std.specs.Prelude.{◌≡◌};
 ghost use Rattle.account.specs.State.{no_account, account, time_of, wait_of, choice, fresh_state, unpriced};
 
 use crate::types::{Account, Families, Prices, State, Tariff};

@@ -1,5 +1,5 @@
 -- A walk over the frames of a body, at i: what a fold over the frames, or the accounts, make of those from the i-th on. Assumes nothing.
-use Rattle.core.specs.Prelude.{◌≡◌, ℕ, ◌+◌, ◌-◌, ◌<◌, ◌≤◌, List, [], ◌∷◌}
+use Rattle.std.specs.Prelude.{◌≡◌, ℕ, ◌+◌, ◌-◌, ◌<◌, ◌≤◌, List, [], ◌∷◌}
 use mathlib.Core.Path.{refl, sym, ap, ◌∙◌}
 use mathlib.Core.List.{foldl}
 use Rattle.ladder.specs.Lists.{tabulate}

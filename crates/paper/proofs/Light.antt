@@ -1,5 +1,5 @@
 -- The call of a body by its kind: which kinds keep the prices, which look at prices alone, and that those that are no frames move nothing but the core. Assumes nothing.
-use Rattle.core.specs.Prelude.{◌≡◌, ℕ, Bool, true, false, cond, ◌||◌, eqb, List, [], drop}
+use Rattle.std.specs.Prelude.{◌≡◌, ℕ, Bool, true, false, cond, ◌||◌, eqb, List, [], drop}
 use mathlib.Core.Path.{refl, sym, ap, ◌∙◌}
 use borrow.Author.Tests.{eqb-true, ne_eqb}
 use lib.Ieee.{Float}

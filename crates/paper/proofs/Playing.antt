@@ -1,6 +1,6 @@
 -- A controller in slices, from one event to the next: what its call leaves is the controller of the slices as they are then, and its line looks at what was
 -- moved alone. Assumes nothing.
-use Rattle.core.specs.Prelude.{◌≡◌, ℕ, Bool, true, false, cond, eqb, List, [], replicate}
+use Rattle.std.specs.Prelude.{◌≡◌, ℕ, Bool, true, false, cond, eqb, List, [], replicate}
 use mathlib.Core.Path.{refl, sym, ◌∙◌}
 use lib.Ieee.{Float}
 use Rattle.limits.specs.declared.refusal.Verdict.{Verdict}

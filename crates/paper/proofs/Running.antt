@@ -1,5 +1,5 @@
 -- The outcomes of a file's events, one after the other: the next event's, and what is left. Assumes nothing.
-use Rattle.core.specs.Prelude.{◌≡◌, ℕ, ◌+◌, ◌-◌, ◌<◌, ◌≤◌, List, []}
+use Rattle.std.specs.Prelude.{◌≡◌, ℕ, ◌+◌, ◌-◌, ◌<◌, ◌≤◌, List, []}
 use mathlib.Core.Path.{refl, sym, ap, subst, ◌∙◌}
 use lib.Ieee.{Float, of_bits, lt}
 use Rattle.float.specs.Numbers.{f0}

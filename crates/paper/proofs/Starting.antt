@@ -1,5 +1,5 @@
 -- The two airs' tables are accepted, by computation. Assumes nothing.
-use Rattle.core.specs.Prelude.{◌≡◌}
+use Rattle.std.specs.Prelude.{◌≡◌}
 use mathlib.Core.Path.{refl}
 use lib.Ieee.{of_bits, of_int, neg, le, div, round}
 use Rattle.limits.specs.declared.refusal.Verdict.TheVariants.{Accepted}

@@ -1,5 +1,5 @@
 -- Elements stored one by one from the start of a list are written over it. Assumes nothing.
-use Rattle.core.specs.Prelude.{◌≡◌, ℕ, ◌≤◌, List, [], ◌∷◌, length, set}
+use Rattle.std.specs.Prelude.{◌≡◌, ℕ, ◌≤◌, List, [], ◌∷◌, length, set}
 use mathlib.Core.Path.{refl}
 use native.Mathlib.Omega.{arith}
 use Rattle.question.specs.Over.{over}

@@ -1,5 +1,5 @@
 -- The bytes of a number, of a field and of a line. Definitions only.
-use Rattle.core.specs.Prelude.{ℕ, zero, suc, ◌+◌, ◌/◌, ◌%◌, cond, List, [], ◌∷◌, ◌++◌, nat_lt}
+use Rattle.std.specs.Prelude.{ℕ, zero, suc, ◌+◌, ◌/◌, ◌%◌, cond, List, [], ◌∷◌, ◌++◌, nat_lt}
 
 -- "Fields are decimal": the digits of n in ASCII, the highest first. The first argument only bounds how many there are, and n itself does.
 unfoldable pub digits : ℕ → ℕ → List ℕ

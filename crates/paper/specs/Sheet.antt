@@ -1,5 +1,5 @@
 -- The sheet of a question file, as the list of its bytes, and its marking: what the two calls return and leave, refused or not. Definitions only.
-use Rattle.core.specs.Prelude.{ℕ, suc, ◌+◌, Bool, true, false, cond, List, [], ◌∷◌, ◌++◌, length, ◌==◌, nat_le}
+use Rattle.std.specs.Prelude.{ℕ, suc, ◌+◌, Bool, true, false, cond, List, [], ◌∷◌, ◌++◌, length, ◌==◌, nat_le}
 use Rattle.limits.specs.Refusals.{refusal_number, unless, or_else}
 use Rattle.limits.specs.declared.refusal.Refusal.{Refusal}
 use Rattle.limits.specs.declared.refusal.Refusal.TheVariants.{SheetRoom, AnswerCount}

@@ -1,5 +1,5 @@
 // A frames event in place: two passes over the frames of its body, one that checks them and one that books them.
-ghost use Rattle.core.specs.Prelude.{◌≡◌, length, drop};
+ghost use Rattle.std.specs.Prelude.{◌≡◌, length, drop};
 ghost use Rattle.rules.specs.Booking.{book};
 ghost use Rattle.rules.specs.bridges.Check.{begin_check, check_all};
 ghost use Rattle.rate.specs.Calls.{accepted, step, Frames};

@@ -1,6 +1,6 @@
 // An event's line by its outcome, the line of a refused file, and how long they are. A line goes to a slice that has room for it, piece by piece: each
 // after the bytes already written, into the part of the slice that is lent from there. The writers return how many bytes they took.
-ghost use Rattle.core.specs.Prelude.{◌≡◌, ◌≤◌, [], ◌∷◌, length};
+ghost use Rattle.std.specs.Prelude.{◌≡◌, ◌≤◌, [], ◌∷◌, length};
 ghost use Rattle.question.specs.Over.{over};
 ghost use Rattle.paper.specs.Lines.{Number, Word, cell_bytes, ended, row_of};
 ghost use Rattle.paper.specs.bridges.Outcomes.{tried_by, flags_by, answered_by, refused_by, cells_by};

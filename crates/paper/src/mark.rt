@@ -1,5 +1,5 @@
 // Marking: one answer byte an event, held against the choice of that event's outcome.
-ghost use Rattle.core.specs.Prelude.{◌≡◌, ◌<◌, ◌≤◌, length, if◌then◌else◌, nat_eq};
+ghost use Rattle.std.specs.Prelude.{◌≡◌, ◌<◌, ◌≤◌, length, if◌then◌else◌, nat_eq};
 ghost use Rattle.question.specs.File.{event_count};
 ghost use Rattle.paper.specs.Sheet.{score_of, mark_answer};
 ghost use Rattle.paper.specs.bridges.Outcomes.{Logged, scored_outcome};

@@ -1,5 +1,5 @@
 // An event's outcome: three numbers that stand for its line. How they are made, kept in a slice and read again.
-ghost use Rattle.core.specs.Prelude.{◌≡◌, ◌+◌, ◌≤◌, length};
+ghost use Rattle.std.specs.Prelude.{◌≡◌, ◌+◌, ◌≤◌, length};
 ghost use Rattle.question.specs.Over.{over};
 ghost use Rattle.paper.specs.bridges.Outcomes.{worth, tried_number, tries, outcome_of, outcome_numbers, outcome_at};
 

@@ -1,5 +1,5 @@
 // An event in place: its body's call, made on a controller whose arrays are lent. Each function answers for every list of bytes.
-ghost use Rattle.core.specs.Prelude.{◌≡◌, true, false, ◌||◌, [], length, ◌==◌};
+ghost use Rattle.std.specs.Prelude.{◌≡◌, true, false, ◌||◌, [], length, ◌==◌};
 ghost use Rattle.ladder.specs.declared.types.Table.{Table};
 ghost use Rattle.ladder.specs.Tables.{blank_table};
 ghost use Rattle.account.specs.State.{fresh_state};

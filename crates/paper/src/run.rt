@@ -1,5 +1,5 @@
 // The one run of a paper: the loop over a file's events, in place, which leaves the outcome of each.
-ghost use Rattle.core.specs.Prelude.{◌≡◌, ◌*◌, ◌≤◌, [], length};
+ghost use Rattle.std.specs.Prelude.{◌≡◌, ◌*◌, ◌≤◌, [], length};
 ghost use Rattle.account.specs.State.{unpriced};
 ghost use Rattle.rate.specs.Reads.{probing_in};
 ghost use Rattle.steps.specs.bridges.Held.{Lent, laid};

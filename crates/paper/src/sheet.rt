@@ -1,5 +1,5 @@
 // The sheet of a question file: its events are run once, and its lines printed from their outcomes. How long they are is known before a byte is written.
-ghost use Rattle.core.specs.Prelude.{◌≡◌, ◌≤◌, length};
+ghost use Rattle.std.specs.Prelude.{◌≡◌, ◌≤◌, length};
 ghost use Rattle.question.specs.File.{event_count};
 ghost use Rattle.question.specs.Over.{over};
 ghost use Rattle.paper.specs.Sheet.{sheet_of, room_verdict, sheet_by, sheet_answer, left_by, sheet_left, refused_bytes, fitting, printed_in};

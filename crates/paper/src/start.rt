@@ -1,5 +1,5 @@
 // What a question file starts with: the table of its air, with the air's settings.
-ghost use Rattle.core.specs.Prelude.{◌≡◌, true, false};
+ghost use Rattle.std.specs.Prelude.{◌≡◌, true, false};
 ghost use Rattle.ladder.specs.Tables.{table_of, for_air};
 ghost use Rattle.ladder.specs.Airs.{wide_air, narrow_air};
 ghost use Rattle.paper.specs.Sheet.{fresh_for};

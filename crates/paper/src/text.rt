@@ -1,6 +1,6 @@
 // Pieces of a line, each written at the start of a slice that has room for it. The writers are inner: each caller has shown that the piece has room. All
 // return how many bytes they took.
-ghost use Rattle.core.specs.Prelude.{◌≡◌, ◌≤◌, length};
+ghost use Rattle.std.specs.Prelude.{◌≡◌, ◌≤◌, length};
 ghost use Rattle.question.specs.Over.{over};
 ghost use Rattle.paper.specs.Lines.{Number, decimal, ended};
 

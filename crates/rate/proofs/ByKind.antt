@@ -1,5 +1,5 @@
 -- What a call that sets prices leaves and returns, by the answer of the test in the code: the result that the code makes is that of `step`. Assumes nothing.
-use Rattle.core.specs.Prelude.{◌≡◌, ℕ, ◌<◌, ◌≤◌, Bool, true, false, ◌&&◌, List, length}
+use Rattle.std.specs.Prelude.{◌≡◌, ℕ, ◌<◌, ◌≤◌, Bool, true, false, ◌&&◌, List, length}
 use mathlib.Core.Path.{refl}
 use lib.Ieee.{Float}
 use borrow.Author.Tests.{le-leb, lt-leb}

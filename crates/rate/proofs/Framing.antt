@@ -1,5 +1,5 @@
 -- The calls that move no array move nothing but the core, so a call by value is the call in place with what it moved put back. Assumes nothing.
-use Rattle.core.specs.Prelude.{◌≡◌, ℕ, Bool, false, not, ◌&&◌, ◌||◌, List, []}
+use Rattle.std.specs.Prelude.{◌≡◌, ℕ, Bool, false, not, ◌&&◌, ◌||◌, List, []}
 use mathlib.Core.Path.{refl, sym, ap, ◌∙◌}
 use lib.Ieee.{Float}
 use Rattle.limits.specs.Refusals.{unless}

@@ -1,5 +1,5 @@
 -- `observe_frames` in two passes is the call's step: the pass that checks gives its verdict, and the pass that books what `decide` is given. Assumes nothing.
-use Rattle.core.specs.Prelude.{◌≡◌, ℕ, suc, ◌≤◌, min, false, eqb, leb, List, [], ◌∷◌, length, take}
+use Rattle.std.specs.Prelude.{◌≡◌, ℕ, suc, ◌≤◌, min, false, eqb, leb, List, [], ◌∷◌, length, take}
 use mathlib.Core.Path.{refl, ap, ◌∙◌}
 use native.Mathlib.Omega.{arith}
 use native.Mathlib.Decide.{dec_lt}

@@ -1,6 +1,6 @@
 -- The types of `observe_frames` and of those that lend it frames, as the laws of `walk` take them: each owns only facts. Assumes nothing.
 use mathlib.Core.Path.{refl}
-use Rattle.core.specs.Prelude.{List}
+use Rattle.std.specs.Prelude.{List}
 use Rattle.walk.proofs.Fold.{Plainly, of_struct, of_enum}
 use Rattle.limits.specs.declared.reading.Reading.{Reading}
 use Rattle.rules.specs.declared.types.Frame.{Frame}

@@ -1,5 +1,5 @@
 -- A call is refused and changes nothing, or it is accepted: what holds of both answers holds of the call's. Assumes nothing.
-use Rattle.core.specs.Prelude.{◌≡◌, ℕ, false}
+use Rattle.std.specs.Prelude.{◌≡◌, ℕ, false}
 use mathlib.Core.Path.{refl, ap}
 use native.Mathlib.Omega.{arith}
 use Rattle.limits.specs.declared.refusal.Refusal.{Refusal}

@@ -1,5 +1,5 @@
 -- The seven kinds of call that change a controller, which are refused (6 to 9), what each leaves and returns, and what a list of them leaves. Definitions only.
-use Rattle.core.specs.Prelude.{ℕ, Bool, true, false, cond, not, ◌&&◌, ◌||◌, List, [], ◌∷◌, length, take, nat_le}
+use Rattle.std.specs.Prelude.{ℕ, Bool, true, false, cond, not, ◌&&◌, ◌||◌, List, [], ◌∷◌, length, take, nat_le}
 use Rattle.std.specs.Prelude.{Float}
 use Rattle.limits.specs.Values.{ok_db, ok_length, ok_burst}
 use Rattle.limits.specs.Refusals.{unless, or_else}

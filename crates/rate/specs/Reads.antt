@@ -1,5 +1,5 @@
 -- The calls that only read a controller, and making one. Definitions only.
-use Rattle.core.specs.Prelude.{ℕ, Bool, cond}
+use Rattle.std.specs.Prelude.{ℕ, Bool, cond}
 use Rattle.std.specs.Prelude.{Float}
 use Rattle.float.specs.Numbers.{f0}
 use Rattle.limits.specs.Values.{ok_db}

@@ -1,5 +1,5 @@
 // What a changing call answers: accepted with its marks, or refused with the controller as it was.
-ghost use Rattle.core.specs.Prelude.{◌≡◌};
+ghost use Rattle.std.specs.Prelude.{◌≡◌};
 ghost use Rattle.limits.specs.declared.refusal.Verdict.TheVariants.{Refused};
 ghost use Rattle.rate.specs.Calls.{repriced, refused};
 ghost use Rattle.rate.specs.bridges.Playing.{answer_by};

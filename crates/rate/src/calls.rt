@@ -1,5 +1,5 @@
 // The calls that change a controller. Each promises `step` of specs/Calls.antt, which the waiting theorem speaks of.
-ghost use Rattle.core.specs.Prelude.{◌≡◌};
+ghost use Rattle.std.specs.Prelude.{◌≡◌};
 ghost use Rattle.rate.specs.Calls.{step, Snr, Silence, Seed, Echo, Family};
 
 use crate::answers::answer;

@@ -1,5 +1,5 @@
 // `observe_frames`: two thin passes over the frames lent, one that checks them and one that books them, and one answer from what both found.
-ghost use Rattle.core.specs.Prelude.{◌≡◌, ◌≤◌, false, [], ◌∷◌, take};
+ghost use Rattle.std.specs.Prelude.{◌≡◌, ◌≤◌, false, [], ◌∷◌, take};
 ghost use Rattle.limits.specs.Refusals.{unless};
 ghost use Rattle.limits.specs.Readings.{ok_snr};
 ghost use Rattle.limits.specs.declared.refusal.Refusal.TheVariants.{OutsideLimits};

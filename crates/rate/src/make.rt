@@ -1,5 +1,5 @@
 // Making a controller.
-ghost use Rattle.core.specs.Prelude.{◌≡◌};
+ghost use Rattle.std.specs.Prelude.{◌≡◌};
 ghost use Rattle.ladder.specs.Tables.{columns};
 ghost use Rattle.rate.specs.Calls.{fresh_controller};
 ghost use Rattle.rate.specs.Reads.{made, for_air_of};

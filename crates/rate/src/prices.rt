@@ -1,5 +1,5 @@
 // Setting the prices of an exchange.
-ghost use Rattle.core.specs.Prelude.{◌≡◌, ◌≤◌, ◌&&◌, length};
+ghost use Rattle.std.specs.Prelude.{◌≡◌, ◌≤◌, ◌&&◌, length};
 ghost use Rattle.limits.specs.Values.{ok_length, ok_burst};
 ghost use Rattle.ladder.specs.Lists.{every, filled};
 ghost use Rattle.rate.specs.Calls.{step, Price, tariff_of};

@@ -1,5 +1,5 @@
 // The calls that only read a controller.
-ghost use Rattle.core.specs.Prelude.{◌≡◌};
+ghost use Rattle.std.specs.Prelude.{◌≡◌};
 ghost use Rattle.rules.specs.Echo.{refuses};
 ghost use Rattle.rate.specs.Reads.{value_of, estimate_of, account_of, lossless_of, threshold_of, choice_of, probing_of, recommend_of, first_mode, modes_of};
 

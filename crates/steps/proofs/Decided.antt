@@ -1,6 +1,6 @@
 -- What `decide` makes of a state in slices: what looks at no time and no wait is the same without them, and the steps that move only the core move only the core of
 -- the state held. Assumes nothing.
-use Rattle.core.specs.Prelude.{◌≡◌, ℕ, suc, Bool, true, false, cond, ◌&&◌, ◌||◌, List, [], get_or, set}
+use Rattle.std.specs.Prelude.{◌≡◌, ℕ, suc, Bool, true, false, cond, ◌&&◌, ◌||◌, List, [], get_or, set}
 use mathlib.Core.Path.{refl, sym, ap, subst, ◌∙◌}
 use lib.Ieee.{Float, le, lt}
 use Rattle.float.specs.Numbers.{◌⊖◌, ◌⊗◌, of_nat, f0}

@@ -1,5 +1,5 @@
 -- The steps that move no array move nothing but the core: times and waits do not matter to them, and to silence no account does. Assumes nothing.
-use Rattle.core.specs.Prelude.{◌≡◌, ℕ, zero, suc, ◌-◌, Bool, true, false, cond, List}
+use Rattle.std.specs.Prelude.{◌≡◌, ℕ, zero, suc, ◌-◌, Bool, true, false, cond, List}
 use mathlib.Core.Path.{refl, ap}
 use lib.Ieee.{Float, neg, lt}
 use Rattle.float.specs.Numbers.{f64}

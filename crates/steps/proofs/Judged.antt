@@ -1,5 +1,5 @@
 -- Judging and trying as in the crate steps, of a state that is held in slices: what a step reads and leaves of it. Assumes nothing.
-use Rattle.core.specs.Prelude.{◌≡◌, ℕ, suc, ◌*◌, min, Bool, true, false, cond, List, [], get_or, set}
+use Rattle.std.specs.Prelude.{◌≡◌, ℕ, suc, ◌*◌, min, Bool, true, false, cond, List, [], get_or, set}
 use mathlib.Core.Path.{refl, sym, ap, ◌∙◌}
 use lib.Ieee.{Float}
 use Rattle.float.specs.Numbers.{f0}

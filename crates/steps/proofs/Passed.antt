@@ -1,6 +1,6 @@
 -- A transmission booked in place: what the pass gathers beside the accounts is that part of the tally, so what is decided after it is what the rules decide.
 -- Assumes nothing.
-use Rattle.core.specs.Prelude.{◌≡◌, ℕ, List, [], ◌∷◌}
+use Rattle.std.specs.Prelude.{◌≡◌, ℕ, List, [], ◌∷◌}
 use mathlib.Core.Path.{refl, sym, ap, ◌∙◌}
 use lib.Ieee.{Float}
 use Rattle.limits.specs.declared.reading.Reading.{Reading}

@@ -1,5 +1,5 @@
 // A transmission's frames, booked in place.
-ghost use Rattle.core.specs.Prelude.{◌≡◌, ◌+◌, ◌*◌, ◌≤◌, length, slice_set};
+ghost use Rattle.std.specs.Prelude.{◌≡◌, ◌+◌, ◌*◌, ◌≤◌, length, slice_set};
 ghost use Rattle.ladder.specs.Types.{places_of};
 ghost use Rattle.rules.specs.Booking.{passed};
 ghost use Rattle.steps.specs.bridges.Held.{Lent, laid, accounts_of};

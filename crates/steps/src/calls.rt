@@ -1,5 +1,5 @@
 // The calls that move no array, with their refusals.
-ghost use Rattle.core.specs.Prelude.{◌≡◌, length};
+ghost use Rattle.std.specs.Prelude.{◌≡◌, length};
 ghost use Rattle.limits.specs.Refusals.{unless};
 ghost use Rattle.limits.specs.Readings.{ok_snr, ok_echo};
 ghost use Rattle.limits.specs.Values.{ok_db};

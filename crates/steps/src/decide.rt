@@ -1,5 +1,5 @@
 // `decide` of document 01's section "A transmission", in place.
-ghost use Rattle.core.specs.Prelude.{◌≡◌, suc, ◌<◌, ◌&&◌, [], length, get_or, if◌then◌else◌, ◌==◌, slice_index_or};
+ghost use Rattle.std.specs.Prelude.{◌≡◌, suc, ◌<◌, ◌&&◌, [], length, get_or, if◌then◌else◌, ◌==◌, slice_index_or};
 ghost use Rattle.std.specs.Float.Ieee.{le};
 ghost use Rattle.float.specs.Numbers.{◌⊖◌, ◌⊗◌, of_nat, f0};
 ghost use Rattle.ladder.specs.Types.{no_row, rung_at, places_of};

@@ -1,5 +1,5 @@
 // Document 01's section "Echo and silence", in place.
-ghost use Rattle.core.specs.Prelude.{◌≡◌, min, not, ◌&&◌, length, nat_lt, slice_index_or};
+ghost use Rattle.std.specs.Prelude.{◌≡◌, min, not, ◌&&◌, length, nat_lt, slice_index_or};
 ghost use Rattle.ladder.specs.Lists.{some_from};
 ghost use Rattle.ladder.specs.Types.{no_row, rung_at, places_of};
 ghost use Rattle.account.specs.Price.{value};

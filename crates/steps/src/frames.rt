@@ -1,5 +1,5 @@
 // What a transmission leaves once its frames are booked.
-ghost use Rattle.core.specs.Prelude.{◌≡◌, length};
+ghost use Rattle.std.specs.Prelude.{◌≡◌, length};
 ghost use Rattle.steps.specs.bridges.Held.{Lent, Sized, laid, rung_in, held, decided_of};
 ghost use Rattle.steps.specs.bridges.Pass.{finish_core, decided_pass};
 

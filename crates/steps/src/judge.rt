@@ -1,5 +1,5 @@
 // Document 01's section "A transmission", in place: judging the rungs sent, and the running try.
-ghost use Rattle.core.specs.Prelude.{◌≡◌, suc, ◌*◌, min, [], length, if◌then◌else◌, slice_index_or, slice_set};
+ghost use Rattle.std.specs.Prelude.{◌≡◌, suc, ◌*◌, min, [], length, if◌then◌else◌, slice_index_or, slice_set};
 ghost use Rattle.float.specs.Numbers.{f0};
 ghost use Rattle.ladder.specs.Types.{places_of};
 ghost use Rattle.account.specs.declared.types.Trying.TheVariants.{Running};

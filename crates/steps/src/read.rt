@@ -1,5 +1,5 @@
 // How a table and a state lie in slices, and how they are read and changed there. A rung or a place outside the arrays gets the source's own defaults.
-ghost use Rattle.core.specs.Prelude.{◌≡◌, length, get_or, slice_index_or, slice_set};
+ghost use Rattle.std.specs.Prelude.{◌≡◌, length, get_or, slice_index_or, slice_set};
 ghost use Rattle.float.specs.Numbers.{◌⊗◌, of_nat, f0};
 ghost use Rattle.ladder.specs.Types.{no_row};
 ghost use Rattle.account.specs.State.{no_account};

@@ -1,6 +1,6 @@
 -- What a rung is rated by, from its row and account, which whoever holds them has read: estimate, value and lossless price of Price.antt are these (proofs/Rates.antt).
 -- Definitions only.
-use Rattle.core.specs.Prelude.{ℕ, Bool, cond, nat_lt}
+use Rattle.std.specs.Prelude.{ℕ, Bool, cond, nat_lt}
 use Rattle.std.specs.Prelude.{Float}
 use Rattle.float.specs.Numbers.{◌⊘◌, of_nat}
 use Rattle.ladder.specs.declared.types.Air.{Air}

@@ -1,6 +1,6 @@
 -- Three numbers that stand for a line, in a list of numbers, and what is printed and scored by them: proofs/Outcomes.antt shows that it is what the
 -- line says. Definitions only.
-use Rattle.core.specs.Prelude.{◌≡◌, ℕ, ◌+◌, ◌*◌, ◌/◌, ◌%◌, Bool, true, false, cond, List, [], ◌∷◌, ◌++◌, take, ◌==◌, slice_index}
+use Rattle.std.specs.Prelude.{◌≡◌, ℕ, ◌+◌, ◌*◌, ◌/◌, ◌%◌, Bool, true, false, cond, List, [], ◌∷◌, ◌++◌, take, ◌==◌, slice_index}
 use Rattle.limits.specs.Refusals.{refusal_number}
 use Rattle.rate.specs.declared.types.Probing.{Probing}
 use Rattle.rate.specs.declared.types.Probing.TheVariants.{Nothing, At}

@@ -1,6 +1,6 @@
 -- What is said of each event of a file, and the sheet's text and the score by that alone: proofs/Said.antt shows that they are `sheet_of` and `score_of`.
 -- Definitions only.
-use Rattle.core.specs.Prelude.{ℕ, suc, ◌+◌, cond, List, [], ◌∷◌, ◌++◌, ◌==◌}
+use Rattle.std.specs.Prelude.{ℕ, suc, ◌+◌, cond, List, [], ◌∷◌, ◌++◌, ◌==◌}
 use Rattle.rate.specs.declared.types.RateController.{RateController}
 use Rattle.rate.specs.Calls.{Call, step}
 use Rattle.question.specs.File.{air}

@@ -1,6 +1,6 @@
 -- `observe_frames` in two passes over the frames: what the passes begin with, and what is made of what they found. It is `step` of Calls.antt, which is what is
 -- right (proofs/Passes.antt). Definitions only.
-use Rattle.core.specs.Prelude.{ℕ, false, cond, List, ◌==◌, nat_le}
+use Rattle.std.specs.Prelude.{ℕ, false, cond, List, ◌==◌, nat_le}
 use Rattle.limits.specs.Refusals.{unless, or_else}
 use Rattle.limits.specs.declared.refusal.Refusal.TheVariants.{TooManyFrames, OutsideLimits}
 use Rattle.limits.specs.declared.refusal.Verdict.{Verdict}

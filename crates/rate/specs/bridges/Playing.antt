@@ -1,6 +1,6 @@
 -- A controller whose state is lent in slices, and what a call leaves of it and returns, without what the call does not move. Definitions only: what is right is `step` of
 -- Calls.antt.
-use Rattle.core.specs.Prelude.{ℕ, List}
+use Rattle.std.specs.Prelude.{ℕ, List}
 use Rattle.std.specs.Prelude.{Float}
 use Rattle.ladder.specs.declared.types.Table.{Table}
 use Rattle.account.specs.declared.types.Core.{Core}

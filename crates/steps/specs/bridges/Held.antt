@@ -1,6 +1,6 @@
 -- A table and a state as numbers in slices: what is lent to be read or changed in place stands for what it holds. The rules are those of the crate rules, at the
 -- table `laid` and the state `held`; here is only how the numbers stand for them. Definitions only.
-use Rattle.core.specs.Prelude.{◌≡◌, ℕ, ◌+◌, ◌*◌, cond, List, [], ◌∷◌, length, get_or, ◌==◌, slice_index, slice_index_or}
+use Rattle.std.specs.Prelude.{◌≡◌, ℕ, ◌+◌, ◌*◌, cond, List, [], ◌∷◌, length, get_or, ◌==◌, slice_index, slice_index_or}
 use Rattle.std.specs.Prelude.{Float}
 use Rattle.float.specs.Numbers.{f0, f1}
 use Rattle.limits.specs.declared.reading.Reading.{Reading}

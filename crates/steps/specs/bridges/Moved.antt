@@ -1,5 +1,5 @@
 -- What a call that moves no array leaves of a controller and returns: the core, and the answer, without what is not moved. Definitions only.
-use Rattle.core.specs.Prelude.{Bool, false, not, ◌&&◌, ◌||◌}
+use Rattle.std.specs.Prelude.{Bool, false, not, ◌&&◌, ◌||◌}
 use Rattle.limits.specs.declared.refusal.Verdict.{Verdict}
 use Rattle.limits.specs.declared.refusal.Verdict.TheVariants.{Accepted, Refused}
 use Rattle.account.specs.declared.types.Core.{Core}

@@ -1,5 +1,5 @@
 -- A transmission's frames booked in place, one after the other: the factors kept between them, and what else one pass gathers. Definitions only.
-use Rattle.core.specs.Prelude.{◌≡◌, ℕ, zero, suc, ◌*◌, ◌/◌, ◌<◌, true, false, T, List, get_or, slice_index_or, slice_set}
+use Rattle.std.specs.Prelude.{◌≡◌, ℕ, zero, suc, ◌*◌, ◌/◌, ◌<◌, true, false, T, List, get_or, slice_index_or, slice_set}
 use mathlib.Core.List.{foldl}
 use Rattle.std.specs.Prelude.{Float}
 use Rattle.std.specs.Float.Ieee.{lt}

@@ -2,7 +2,7 @@
 use mathlib.Core.Path.{refl, sym, ap}
 use native.Mathlib.Omega.{arith}
 use borrow.Author.Rules.{rules}
-use Rattle.core.specs.Prelude.{ℕ, ◌/◌, ◌<◌, length}
+use Rattle.std.specs.Prelude.{ℕ, ◌/◌, ◌<◌, length}
 use lib.ListN.{length-set}
 use Rattle.paper.specs.Lines.{decimal}
 use Rattle.paper.proofs.Decimal.{decimal_one, decimal_more, length_more}
