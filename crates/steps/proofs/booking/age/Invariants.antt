@@ -1,0 +1,17 @@
+use Rattle.std.specs.Prelude.{◌≡◌, ℕ, suc, ◌+◌, ◌-◌, ◌<◌, ◌≤◌, List, length, get_or, set}
+use mathlib.Core.Path.{refl, ap, ◌∙◌}
+use native.Mathlib.Numerals.{add-one}
+use native.Mathlib.Omega.{arith}
+use lib.Ieee.{Float}
+use lib.ListN.{length-set}
+use borrow.Author.Rules.{rules}
+use Rattle.float.specs.Numbers.{◌⊗◌, f0, f1}
+use Rattle.ladder.proofs.Arrays.{any_default}
+use Rattle.steps.specs.bridges.Pass.{scaled}
+use Rattle.steps.proofs.booking.age.Given as goal
+
+abbrev pub invariant-loop-i : goal.invariant-loop-i
+invariant-loop-i l = (l.i ≤ l.n) × (length l.books ≡ length l.initial.books) × (scaled (l.n - l.i) l.i l.fades l.books ≡ scaled l.n 0 l.fades l.initial.books)
+
+abbrev pub decreases-loop-i : goal.decreases-loop-i
+decreases-loop-i l = l.n - l.i

@@ -1,0 +1,21 @@
+use Rattle.std.specs.Prelude.{◌≡◌, ℕ, ◌-◌, ◌<◌, ◌≤◌, Bool, true, false, cond}
+use mathlib.Core.Path.{refl, ◌∙◌}
+use mathlib.Core.Logic.{⊎_elim}
+use native.Mathlib.Omega.{arith}
+use lib.Ieee.{Float}
+use Rattle.ladder.specs.Types.{place, places_of}
+use Rattle.rules.specs.declared.lowest.Best.{Best}
+use Rattle.rules.specs.declared.lowest.Best.TheVariants.{NoneYet, Found}
+use Rattle.rules.specs.Lowest.{beats, improved, greatest}
+use Rattle.rules.specs.Tries.{candidate, choose}
+use Rattle.rules.proofs.Greatest.{worth, start, turn, done}
+use borrow.Author.Rules.{rules}
+use Rattle.steps.specs.bridges.Held.{rated, laid}
+use Rattle.steps.proofs.decide.choose_place.Given as goal
+
+abbrev pub invariant-loop-i : goal.invariant-loop-i
+invariant-loop-i l =
+    (l.i ≤ places_of (laid l.t l.reals l.wholes)) × (greatest (places_of (laid l.t l.reals l.wholes) - l.i) l.i (candidate (laid l.t l.reals l.wholes) (rated l.books l.c)) (worth (laid l.t l.reals l.wholes) l.p (rated l.books l.c)) l.best ≡ choose (laid l.t l.reals l.wholes) l.p (rated l.books l.c))
+
+abbrev pub decreases-loop-i : goal.decreases-loop-i
+decreases-loop-i l = places_of (laid l.t l.reals l.wholes) - l.i

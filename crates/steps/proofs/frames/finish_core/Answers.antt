@@ -1,0 +1,10 @@
+-- What was read is the definition's.
+use mathlib.Core.Path.{refl}
+use borrow.Author.Rules.{rules}
+use Rattle.steps.proofs.frames.finish_core.Goals as goal
+
+pub returns : goal.returns
+returns c =
+    let a = c.args in
+    let r = c.rung_in-here in
+    rw (c.clean_mark-clean.ensures, c.judge_family-failed.ensures, ← r.ensures) refl

@@ -1,0 +1,16 @@
+use Rattle.std.specs.Prelude.{◌≡◌, ◌^◌, ◌<◌, length}
+use mathlib.Core.Path.{refl, sym, ap, ◌∙◌}
+use native.Mathlib.Omega.{arith}
+use lib.Count.{ones, count_trailing_zeros}
+use Rattle.rules.specs.bridges.Sets.{judge_set}
+use Rattle.rules.proofs.Set.{Lowest, lowest, some, shift, empty, judge_next, judge_none}
+use Rattle.steps.specs.bridges.Held.{held, laid}
+use borrow.Author.Rules.{rules}
+use Rattle.steps.proofs.judge.judge_sent.Given as goal
+
+abbrev pub invariant-loop-left : goal.invariant-loop-left
+invariant-loop-left l =
+    (l.left < 2 ^ 32) × (length l.since ≡ 32) × (length l.wait ≡ 32) × (judge_set l.left (laid l.t l.reals l.wholes) l.p (held l.books l.since l.wait l.c) ≡ judge_set l.sent (laid l.t l.reals l.wholes) l.p (held l.books l.initial.since l.initial.wait l.c))
+
+abbrev pub decreases-loop-left : goal.decreases-loop-left
+decreases-loop-left l = ones l.left
