@@ -1,11 +1,11 @@
 -- Calls in a walk by hand, as steps of `Types/Kit.antt`'s calculus, at contracts that have no `requires` and whose `ensures` is an equation for the result. All types but the slice own only facts (`Fold.antt`'s `Plainly`).
---     PlainC Ps Q h        the contract  fn(Ps) -> Q  ensures { λ r. ⌜ r ≡ h a ⌝ },  a being the tuple of the arguments' values
---     SliceC P Q D h       the contract  fn(P, &[D]) -> Q  ensures { λ r. ⌜ r ≡ h x (now s.entry) ⌝ }
---     HeldC R one P Q h    the contract  fn(&[R], P) -> Q  ensures { λ r. ⌜ r ≡ h (now s.entry) x ⌝ }
---     AroundC P Z Q D h    the contract  fn(P, &[D], Z) -> Q  ensures { λ r. ⌜ r ≡ h x (now s.entry) y ⌝ }
---     calls-plain          a call of a function that meets `PlainC`. The operands are read with one item more at the head of the context. What follows has the result's machine value w, that it is one of `h a`, and that it has the type's MIR type
---     calls-slice          a call of one that meets `SliceC`, where the context begins [the token; what the slice owns], and does again after it. The operands are read in that context's order
---     calls-held, calls-around     the same at `HeldC` and at `AroundC`
+--     PlainC Ps Q h        the contract  fn(Ps) -> Q  ensures { result ≡ h a },  a being the tuple of the arguments' values
+--     SliceC P Q D h       the contract  fn(P, &[D]) -> Q  ensures { result ≡ h x s.now }
+--     HeldC R one P Q h    the contract  fn(&[R], P) -> Q  ensures { result ≡ h s.now x }
+--     AroundC P Z Q D h    the contract  fn(P, &[D], Z) -> Q  ensures { result ≡ h x s.now y }
+--     calls_plain          a call of a function that meets `PlainC`. The operands are read with one item more at the head of the context. What follows has the result's machine value w, that it is one of `h a`, and that it has the type's MIR type
+--     calls_slice          a call of one that meets `SliceC`, where the context begins [the token; what the slice owns], and does again after it. The operands are read in that context's order. What the slice owns is had twice by the elements' `RowLaws`: a declared type's is `the_row_laws.shr_laws` of its `TheLaws`
+--     calls_held, calls_around     the same at `HeldC` and at `AroundC`
 -- Assumes `Logic`.
 use mathlib.Core.Path.{◌≡◌, subst}
 use mathlib.Core.List.{List, [], ◌∷◌}
@@ -127,7 +127,7 @@ module _ {M : Type 1} {𝓤 : Ura M} {𝓛 : Logic 𝓤} {K : Type 0} {Γ : List
       → Opds K 𝓛 (raw ((SliceC P Q D h 𝓛).pre (((κ, tt), (p, tt), tt, (z, (s, tt)), (u ∷ [], (shr_slice_vals s, tt))), tt)) ∷ ‵ ((ShrSlice (named 0) κ (row D)).own_val s (shr_slice_vals s)) ∷ Γ) E xs (u ∷ shr_slice_vals s)
       → ((w : Val) → Is Q.R (h z s.now) (w ∷ []) → T (has_ty Q.τ w) × WT w → Seq K 𝓛 (‵ (flft κ p) ∷ ‵ ((ShrSlice (named 0) κ (row D)).own_val s (shr_slice_vals s)) ∷ Γ) (lands C Λ E d w rest q))
       → Seq K 𝓛 (‵ (flft κ p) ∷ ‵ ((ShrSlice (named 0) κ (row D)).own_val s (shr_slice_vals s)) ∷ Γ) (runs C Λ E (seq (call f xs d) rest) q)
-  calls_slice t fm P Q D L h known κ p z u s is-z os k =
+  calls_slice t fm P Q D L h known κ p z u s is_z os k =
       move t (1 ∷ []) $ use1 𝓛 (‵ ((ShrSlice (named 0) κ (row D)).own_val s (shr_slice_vals s)) ⊛ ‵ ((ShrSlice (named 0) κ (row D)).own_val s (shr_slice_vals s))) ((shr_slice_copy 𝓛 (named 0) κ (row D) L).twice s (shr_slice_vals s)) $ split t $
       move t (2 ∷ 0 ∷ []) $ use2 𝓛 (raw ((SliceC P Q D h 𝓛).pre to)) asked $ calls_at t fm (SliceC P Q D h 𝓛) known to os (λ w.
       use1 𝓛 (later (some (λ (r : Q.R.Denot). ((‵ (flft κ p) ⊛ ‵ ftrue) ⊛ ‵ (Q.R.own_val r (w ∷ []))) ⊛ raw (ensured 𝓛 (slice_ended P Q D) (slice_clauses P Q D h 𝓛) (κ, tt) (z, (s, tt)) tt r)))) (id⊢ 𝓤 _) $ await t tt $ pick t (λ r.
@@ -139,7 +139,7 @@ module _ {M : Type 1} {𝓤 : Ura M} {𝓛 : Logic 𝓤} {K : Type 0} {Γ : List
 
       asked : ent 𝓤 (⋆ 𝓛 (‵ (flft κ p) ∷ ‵ ((ShrSlice (named 0) κ (row D)).own_val s (shr_slice_vals s)) ∷ [])) ((SliceC P Q D h 𝓛).pre to)
       asked = qed 𝓛 (‵ (flft κ p) ∷ ‵ ((ShrSlice (named 0) κ (row D)).own_val s (shr_slice_vals s)) ∷ []) ∵ nothing ! $ move ! (2 ∷ 0 ∷ []) $ fjoin ! $
-          owned ! P.R (Is P.R) (P.makes 𝓛) z _ is-z $ fjoin ! $ nothing ! $ move ! (2 ∷ 0 ∷ []) $ join ! $ join ! $ frame ! $ done !
+          owned ! P.R (Is P.R) (P.makes 𝓛) z _ is_z $ fjoin ! $ nothing ! $ move ! (2 ∷ 0 ∷ []) $ join ! $ join ! $ frame ! $ done !
 
       told : (r : Q.R.Denot) → ent 𝓤 (ensured 𝓛 (slice_ended P Q D) (slice_clauses P Q D h 𝓛) (κ, tt) (z, (s, tt)) tt r) (fact 𝓤 (r ≡ h z s.now))
       told r = ex_e 𝓤 _ (λ ws. snd∗ 𝓤 (sem 𝓛 (lasts (slice_ended P Q D) (κ, tt) (z, (s, tt)) ws)) (fact 𝓤 (r ≡ h z s.now)))
@@ -149,7 +149,7 @@ module _ {M : Type 1} {𝓤 : Ura M} {𝓛 : Logic 𝓤} {K : Type 0} {Γ : List
       → Opds K 𝓛 (raw ((HeldC R one P Q h 𝓛).pre (((κ, tt), (p, tt), tt, (s, (z, tt)), (shr_slice_vals s, (u ∷ [], tt))), tt)) ∷ ‵ ((ShrSlice (named 0) κ R).own_val s (shr_slice_vals s)) ∷ Γ) E xs (slice_val s.ref_ptr (length s.now) ∷ u ∷ [])
       → ((w : Val) → Is Q.R (h s.now z) (w ∷ []) → T (has_ty Q.τ w) × WT w → Seq K 𝓛 (‵ (flft κ p) ∷ ‵ ((ShrSlice (named 0) κ R).own_val s (shr_slice_vals s)) ∷ Γ) (lands C Λ E d w rest q))
       → Seq K 𝓛 (‵ (flft κ p) ∷ ‵ ((ShrSlice (named 0) κ R).own_val s (shr_slice_vals s)) ∷ Γ) (runs C Λ E (seq (call f xs d) rest) q)
-  calls_held t fm R one L P Q h known κ p s z u is-z os k =
+  calls_held t fm R one L P Q h known κ p s z u is_z os k =
       move t (1 ∷ []) $ use1 𝓛 (‵ ((ShrSlice (named 0) κ R).own_val s (shr_slice_vals s)) ⊛ ‵ ((ShrSlice (named 0) κ R).own_val s (shr_slice_vals s))) ((shr_slice_copy 𝓛 (named 0) κ R L).twice s (shr_slice_vals s)) $ split t $
       move t (2 ∷ 0 ∷ []) $ use2 𝓛 (raw ((HeldC R one P Q h 𝓛).pre to)) asked $ calls_at t fm (HeldC R one P Q h 𝓛) known to os (λ w.
       use1 𝓛 (later (some (λ (r : Q.R.Denot). ((‵ (flft κ p) ⊛ ‵ ftrue) ⊛ ‵ (Q.R.own_val r (w ∷ []))) ⊛ raw (ensured 𝓛 (held_ended R one P Q) (held_clauses R one P Q h 𝓛) (κ, tt) (s, (z, tt)) tt r)))) (id⊢ 𝓤 _) $ await t tt $ pick t (λ r.
@@ -160,7 +160,7 @@ module _ {M : Type 1} {𝓤 : Ura M} {𝓛 : Logic 𝓤} {K : Type 0} {Γ : List
       to = (((κ, tt), (p, tt), tt, (s, (z, tt)), (shr_slice_vals s, (u ∷ [], tt))), tt)
 
       asked : ent 𝓤 (⋆ 𝓛 (‵ (flft κ p) ∷ ‵ ((ShrSlice (named 0) κ R).own_val s (shr_slice_vals s)) ∷ [])) ((HeldC R one P Q h 𝓛).pre to)
-      asked = qed 𝓛 (‵ (flft κ p) ∷ ‵ ((ShrSlice (named 0) κ R).own_val s (shr_slice_vals s)) ∷ []) ∵ nothing ! $ owned ! P.R (Is P.R) (P.makes 𝓛) z _ is-z $ fjoin ! $ move ! (2 ∷ 0 ∷ []) $ fjoin ! $
+      asked = qed 𝓛 (‵ (flft κ p) ∷ ‵ ((ShrSlice (named 0) κ R).own_val s (shr_slice_vals s)) ∷ []) ∵ nothing ! $ owned ! P.R (Is P.R) (P.makes 𝓛) z _ is_z $ fjoin ! $ move ! (2 ∷ 0 ∷ []) $ fjoin ! $
           nothing ! $ move ! (2 ∷ 0 ∷ []) $ join ! $ join ! $ frame ! $ done !
 
       told : (r : Q.R.Denot) → ent 𝓤 (ensured 𝓛 (held_ended R one P Q) (held_clauses R one P Q h 𝓛) (κ, tt) (s, (z, tt)) tt r) (fact 𝓤 (r ≡ h s.now z))
@@ -171,7 +171,7 @@ module _ {M : Type 1} {𝓤 : Ura M} {𝓛 : Logic 𝓤} {K : Type 0} {Γ : List
       → Opds K 𝓛 (raw ((AroundC P Z Q D h 𝓛).pre (((κ, tt), (p, tt), tt, (z, (s, (y, tt))), (u ∷ [], (shr_slice_vals s, (uy ∷ [], tt)))), tt)) ∷ ‵ ((ShrSlice (named 0) κ (row D)).own_val s (shr_slice_vals s)) ∷ Γ) E xs (u ∷ slice_val s.ref_ptr (length s.now) ∷ uy ∷ [])
       → ((w : Val) → Is Q.R (h z s.now y) (w ∷ []) → T (has_ty Q.τ w) × WT w → Seq K 𝓛 (‵ (flft κ p) ∷ ‵ ((ShrSlice (named 0) κ (row D)).own_val s (shr_slice_vals s)) ∷ Γ) (lands C Λ E d w rest q))
       → Seq K 𝓛 (‵ (flft κ p) ∷ ‵ ((ShrSlice (named 0) κ (row D)).own_val s (shr_slice_vals s)) ∷ Γ) (runs C Λ E (seq (call f xs d) rest) q)
-  calls_around t fm P Z Q D L h known κ p z u s y uy is-z is_y os k =
+  calls_around t fm P Z Q D L h known κ p z u s y uy is_z is_y os k =
       move t (1 ∷ []) $ use1 𝓛 (‵ ((ShrSlice (named 0) κ (row D)).own_val s (shr_slice_vals s)) ⊛ ‵ ((ShrSlice (named 0) κ (row D)).own_val s (shr_slice_vals s))) ((shr_slice_copy 𝓛 (named 0) κ (row D) L).twice s (shr_slice_vals s)) $ split t $
       move t (2 ∷ 0 ∷ []) $ use2 𝓛 (raw ((AroundC P Z Q D h 𝓛).pre to)) asked $ calls_at t fm (AroundC P Z Q D h 𝓛) known to os (λ w.
       use1 𝓛 (later (some (λ (r : Q.R.Denot). ((‵ (flft κ p) ⊛ ‵ ftrue) ⊛ ‵ (Q.R.own_val r (w ∷ []))) ⊛ raw (ensured 𝓛 (around_ended P Z Q D) (around_clauses P Z Q D h 𝓛) (κ, tt) (z, (s, (y, tt))) tt r)))) (id⊢ 𝓤 _) $ await t tt $ pick t (λ r.
@@ -183,7 +183,7 @@ module _ {M : Type 1} {𝓤 : Ura M} {𝓛 : Logic 𝓤} {K : Type 0} {Γ : List
 
       asked : ent 𝓤 (⋆ 𝓛 (‵ (flft κ p) ∷ ‵ ((ShrSlice (named 0) κ (row D)).own_val s (shr_slice_vals s)) ∷ [])) ((AroundC P Z Q D h 𝓛).pre to)
       asked = qed 𝓛 (‵ (flft κ p) ∷ ‵ ((ShrSlice (named 0) κ (row D)).own_val s (shr_slice_vals s)) ∷ []) ∵ nothing ! $ owned ! Z.R (Is Z.R) (Z.makes 𝓛) y _ is_y $ fjoin ! $ move ! (2 ∷ 0 ∷ []) $ fjoin ! $
-          owned ! P.R (Is P.R) (P.makes 𝓛) z _ is-z $ fjoin ! $ nothing ! $ move ! (2 ∷ 0 ∷ []) $ join ! $ join ! $ frame ! $ done !
+          owned ! P.R (Is P.R) (P.makes 𝓛) z _ is_z $ fjoin ! $ nothing ! $ move ! (2 ∷ 0 ∷ []) $ join ! $ join ! $ frame ! $ done !
 
       told : (r : Q.R.Denot) → ent 𝓤 (ensured 𝓛 (around_ended P Z Q D) (around_clauses P Z Q D h 𝓛) (κ, tt) (z, (s, (y, tt))) tt r) (fact 𝓤 (r ≡ h z s.now y))
       told r = ex_e 𝓤 _ (λ ws. snd∗ 𝓤 (sem 𝓛 (lasts (around_ended P Z Q D) (κ, tt) (z, (s, (y, tt))) ws)) (fact 𝓤 (r ≡ h z s.now y)))
