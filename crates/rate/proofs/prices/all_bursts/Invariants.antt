@@ -1,0 +1,14 @@
+use Rattle.std.specs.Prelude.{◌≡◌, ◌-◌, length, drop}
+use mathlib.Core.Path.{refl, ◌∙◌}
+use native.Mathlib.Omega.{arith}
+use borrow.Author.Rules.{rules}
+use Rattle.limits.specs.Values.{ok_burst}
+use Rattle.ladder.specs.Lists.{every}
+use Rattle.ladder.proofs.Every.{every_stops, every_goes_on, every_ends}
+use Rattle.rate.proofs.prices.all_bursts.Given as goal
+
+abbrev pub invariant-loop-i : goal.invariant-loop-i
+invariant-loop-i l = every ok_burst (drop l.i l.bursts) ≡ every ok_burst l.bursts
+
+abbrev pub decreases-loop-i : goal.decreases-loop-i
+decreases-loop-i l = length l.bursts - l.i

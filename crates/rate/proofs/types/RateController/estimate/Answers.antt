@@ -1,0 +1,16 @@
+-- Rated by its row and account, where it is in the table.
+use borrow.Author.Rules.{rules}
+use mathlib.Core.Path.{refl}
+use Rattle.account.proofs.Rates.{estimated}
+use Rattle.rate.specs.Reads.{estimate_of}
+use Rattle.rate.proofs.types.RateController.estimate.Goals as goal
+
+pub returns-then-in_table : goal.returns-then-in_table
+unfolding estimate_of
+returns-then-in_table c =
+    let a = c.args in
+    rw (c.estimate_by.ensures, c.account_of-a.ensures, c.row_of-row.ensures, ← estimated a.self.table a.self.prices a.self.state a.mode.0, ← c.in_table.ensures, c.if-in_table.true) refl
+
+pub returns-else-in_table : goal.returns-else-in_table
+unfolding estimate_of
+returns-else-in_table c = rw (← c.in_table.ensures, c.if-in_table.false) refl

@@ -1,0 +1,8 @@
+-- It is never refused.
+use Rattle.rate.specs.Calls.{step, verdict, accepted}
+use borrow.Author.Rules.{rules}
+use Rattle.rate.proofs.types.RateController.set_families.Goals as goal
+
+pub returns : goal.returns
+unfolding step verdict accepted
+returns c = c.repriced.ensures
