@@ -4,6 +4,7 @@
 // The file stdout, which the gate holds this program to, was written from document 01 by hand, but for the papers whose names begin with `recorded`: those
 // sheets are the Rust's.
 #![tactic(auto)]
+
 ghost use Rattle.std.specs.Prelude.{◌≤◌, IfOk, length};
 
 use limits::refusal::Refusal;

@@ -1,6 +1,7 @@
 // Marks a paper: prints how many of the answers are right and how many count, or `refused` and the number. Its arguments name the question file and the
 // file of answers, one byte an event. A file that cannot be read is named on standard error, and nothing is printed.
 #![tactic(auto)]
+
 use paper::types::{Marked, Score};
 use std::env::{Env, FillError};
 use std::fs::{File, Files};
@@ -87,7 +88,10 @@ fn mark_files<F: Read + Drop, R: Print + Eprint + Alloc>(
     answers_file: F,
 ) -> io::Result<()> {
     let mut question = Vec::new(rt.alloc());
-    if let Err(why) = question_file.take(QUESTION as u64).read_to_end(&mut question) {
+    if let Err(why) = question_file
+        .take(QUESTION as u64)
+        .read_to_end(&mut question)
+    {
         return fail(rt, "question file", why);
     }
     let mut answers = Vec::new(rt.alloc());

@@ -2,6 +2,7 @@
 // by their bit patterns, 16 hexadecimal digits each, parted by a space. For each the answer's pattern is written, behind the letter, or `r` and the
 // number of the refusal. What the Rust reading of document 01 answered is in the file stdout, which the gate holds this program to.
 #![tactic(auto)]
+
 ghost use Rattle.std.specs.Prelude.{◌<◌, ◌≤◌, length};
 
 use half::logistic::Probability;

@@ -1,5 +1,6 @@
 // Prints the sheet of the question file on standard input, or `refused` and the number. All that matters is in the crate paper.
 #![tactic(auto)]
+
 use question::bytes::part;
 use std::io;
 use std::io::Read;

@@ -4,6 +4,7 @@
 // the number; then `usable` and the rungs that `usable_modes_by_rate` answers, or its number. What the Rust and the judge's reading of document 01
 // answered is in the file stdout, which the gate holds this program to.
 #![tactic(auto)]
+
 ghost use Rattle.std.specs.Prelude.{◌<◌, ◌≤◌};
 
 use ladder::front::Usable;
@@ -159,12 +160,7 @@ fn put_rungs(rt: &impl Print, rungs: [Rung; 32], count: u32) -> io::Result<()> {
 }
 
 // Writes the front, or the number of the refusal.
-fn put_answer(
-    rt: &impl Print,
-    verdict: Verdict,
-    rungs: [Rung; 32],
-    count: u32,
-) -> io::Result<()> {
+fn put_answer(rt: &impl Print, verdict: Verdict, rungs: [Rung; 32], count: u32) -> io::Result<()> {
     match verdict {
         Verdict::Refused(why) => put_number(rt, why.number()),
         Verdict::Accepted => put_rungs(rt, rungs, count),

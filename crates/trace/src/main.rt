@@ -3,6 +3,7 @@
 // threshold f64, payload u32, capacity u32, frame time f64; the limits as readings; u32 calls, and each call as u32 length and a body in the question
 // file's own form. What the Rust answered is in the file stdout, which the gate holds this program to.
 #![tactic(auto)]
+
 ghost use Rattle.std.specs.Prelude.{◌≤◌};
 
 use account::types::{Core, Mark, Trying};
