@@ -38,14 +38,16 @@ fn put_marks(rt: &impl Print, marked: Marked) -> io::Result<()> {
     }
 }
 
-// Says on standard error what could not be read, and why, in the system's words alone.
+// The system's words for an error, without the number that std writes behind them.
+fn words(text: &str) -> &str {
+    text.split(" (os error ").next().unwrap_or(text)
+}
+
+// Says on standard error what could not be read, and why.
 fn fail(rt: &(impl Eprint + Alloc), what: &str, why: io::Error) -> io::Result<()> {
     let text = format!(in rt.alloc(); "{why}")?;
-    let words = match text.as_str().split_once(" (os error ") {
-        Some((words, _)) => words,
-        None => text.as_str(),
-    };
-    eprintln!(rt; "{what}: {words}")
+    let why = words(text.as_str());
+    eprintln!(rt; "{what}: {why}")
 }
 
 fn has_argument(rt: &impl Env, argument: usize) -> bool {
