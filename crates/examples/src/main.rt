@@ -4,51 +4,54 @@
 // The file stdout, which the gate holds this program to, was written from document 01 by hand, but for the papers whose names begin with `recorded`: those
 // sheets are the Rust's.
 #![tactic(auto)]
-ghost use Rattle.std.specs.Prelude.{◌≤◌, length};
 
-use libc::{STDIN_FILENO, STDOUT_FILENO};
+ghost use Rattle.std.specs.Prelude.{◌≤◌, IfOk, length};
+
 use limits::refusal::Refusal;
 use paper::types::{Marked, Score, Sheet};
 use question::bytes::{part, past, u32_of};
+use std::io;
+use std::io::Read;
 
 // The bytes before a paper's name.
 const HEAD: usize = 16;
 
 const SHEET: usize = 32768;
 
+// The most bytes of an input that are read.
+const ROOM: usize = 262144;
+
 // ---- writing
-fn put_number(n: u32) {
-    io::print_decimal(STDOUT_FILENO, n as u64);
+fn put_number(rt: &impl Print, n: u32) -> io::Result<()> {
+    print!(rt; "{n}")
 }
 
-fn put_refused(why: Refusal) {
-    io::write_all(STDOUT_FILENO, b"refused ");
-    put_number(why.number());
-    io::write_all(STDOUT_FILENO, b"\n");
+fn put_refused(rt: &impl Print, why: Refusal) -> io::Result<()> {
+    rt.write_all(b"refused ")?;
+    put_number(rt, why.number())?;
+    rt.write_all(b"\n")
 }
 
-fn put_score(score: Score) {
-    put_number(score.right);
-    io::write_all(STDOUT_FILENO, b" ");
-    put_number(score.counted);
-    io::write_all(STDOUT_FILENO, b"\n");
+fn put_score(rt: &impl Print, score: Score) -> io::Result<()> {
+    put_number(rt, score.right)?;
+    rt.write_all(b" ")?;
+    put_number(rt, score.counted)?;
+    rt.write_all(b"\n")
 }
 
-fn put_marks(marked: Marked) {
-    io::write_all(STDOUT_FILENO, b"marks ");
+fn put_marks(rt: &impl Print, marked: Marked) -> io::Result<()> {
+    rt.write_all(b"marks ")?;
     match marked {
-        Marked::Scored(score) => put_score(score),
-        Marked::Refused(why) => put_refused(why),
+        Marked::Scored(score) => put_score(rt, score),
+        Marked::Refused(why) => put_refused(rt, why),
     }
 }
 
 // Writes the sheet that the call left in the slice, or why it refused.
-fn put_sheet(answer: Sheet, out: &[u8]) {
+fn put_sheet(rt: &impl Print, answer: Sheet, out: &[u8]) -> io::Result<()> {
     match answer {
-        Sheet::Written(len) => {
-            io::write_all(STDOUT_FILENO, part(out, 0, len));
-        }
-        Sheet::Refused(why) => put_refused(why),
+        Sheet::Written(len) => rt.write_all(part(out, 0, len)),
+        Sheet::Refused(why) => put_refused(rt, why),
     }
 }
 
@@ -67,44 +70,47 @@ fn length_at(paper: &[u8], at: usize) -> usize
 }
 
 // Plays a question file in an output slice of the room given, and marks its answers.
-fn play(question: &[u8], answers: &[u8], room: usize)
+fn play(rt: &impl Print, question: &[u8], answers: &[u8], room: usize) -> io::Result<()>
     requires { room ≤ 32768 }
 {
     let mut out = [0u8; SHEET];
     let slice = &mut out[..room];
     let answer = paper::sheet::sheet(question, slice);
-    put_sheet(answer, slice);
-    put_marks(paper::mark::mark(question, answers));
+    put_sheet(rt, answer, slice)?;
+    put_marks(rt, paper::mark::mark(question, answers))
 }
 
 // Plays the paper at the start of the bytes, and gives its length.
-fn play_first(papers: &[u8]) -> usize
-    ensures { (16 ≤ result) × (result ≤ 3145744) }
+fn play_first(rt: &impl Print, papers: &[u8]) -> io::Result<usize>
+    ensures { IfOk result (λ end. (16 ≤ end) × (end ≤ 3145744)) }
 {
     let question_at = HEAD + length_at(papers, 0);
     let answers_at = question_at + length_at(papers, 4);
     let end = answers_at + length_at(papers, 8);
-    io::write_all(STDOUT_FILENO, part(papers, HEAD, length_at(papers, 0)));
-    io::write_all(STDOUT_FILENO, b"\n");
+    rt.write_all(part(papers, HEAD, length_at(papers, 0)))?;
+    rt.write_all(b"\n")?;
     play(
+        rt,
         part(papers, question_at, length_at(papers, 4)),
         part(papers, answers_at, length_at(papers, 8)),
         at_most(SHEET, length_at(papers, 12)),
-    );
-    end
+    )?;
+    Ok(end)
 }
 
-fn play_all(papers: &[u8])
+fn play_all(rt: &impl Print, papers: &[u8]) -> io::Result<()>
     requires { length papers.now ≤ 262144 }
 {
     let mut at = 0;
     while at < papers.len() {
-        at += play_first(&papers[at..]);
+        at += play_first(rt, &papers[at..])?;
     }
+    Ok(())
 }
 
-fn main() {
-    let mut buffer = [0u8; 262144];
-    let n = io::read_full(STDIN_FILENO, &mut buffer);
-    play_all(&buffer[..n]);
+fn main(rt: HostRuntime) -> io::Result<()> {
+    let mut papers = Vec::new(rt.alloc());
+    rt.reader().take(ROOM as u64).read_to_end(&mut papers)?;
+    let n = papers.len().min(ROOM);
+    play_all(&rt, &papers[..n])
 }

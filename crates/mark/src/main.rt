@@ -1,90 +1,117 @@
 // Marks a paper: prints how many of the answers are right and how many count, or `refused` and the number. Its arguments name the question file and the
 // file of answers, one byte an event. A file that cannot be read is named on standard error, and nothing is printed.
 #![tactic(auto)]
-use libc::{STDERR_FILENO, STDOUT_FILENO};
+
 use paper::types::{Marked, Score};
+use std::env::{Env, FillError};
+use std::fs::{File, Files};
+use std::io;
+use std::io::Read;
 
 // One byte more than a question file may have, and one answer more than a file has events: what is longer is refused, and not cut.
 const QUESTION: usize = 65537;
 
 const ANSWERS: usize = 1001;
 
-fn put_number(n: u32) {
-    io::print_decimal(STDOUT_FILENO, n as u64);
+// The most bytes of an argument.
+const PATH: usize = 4096;
+
+fn put_number(rt: &impl Print, n: u32) -> io::Result<()> {
+    print!(rt; "{n}")
 }
 
-fn put_score(score: Score) {
-    put_number(score.right);
-    io::write_all(STDOUT_FILENO, b" ");
-    put_number(score.counted);
-    io::write_all(STDOUT_FILENO, b"\n");
+fn put_score(rt: &impl Print, score: Score) -> io::Result<()> {
+    put_number(rt, score.right)?;
+    rt.write_all(b" ")?;
+    put_number(rt, score.counted)?;
+    rt.write_all(b"\n")
 }
 
-fn put_marks(marked: Marked) {
+fn put_marks(rt: &impl Print, marked: Marked) -> io::Result<()> {
     match marked {
-        Marked::Scored(score) => put_score(score),
+        Marked::Scored(score) => put_score(rt, score),
         Marked::Refused(why) => {
-            io::write_all(STDOUT_FILENO, b"refused ");
-            put_number(why.number());
-            io::write_all(STDOUT_FILENO, b"\n");
+            rt.write_all(b"refused ")?;
+            put_number(rt, why.number())?;
+            rt.write_all(b"\n")
         }
     }
 }
 
-// Opens the file that an argument names. Where there is none, says so and answers a negative number.
-fn open(argument: usize) -> i32 {
-    let mut path = io::buffer();
-    let n = os::arg(argument, &mut path);
-    if os::errno() != 0 {
-        os::fail(b"name of a file");
-        return -1;
-    }
-    let fd = os::open_read(&path[..n]);
-    if fd < 0 {
-        os::fail(&path[..n]);
-    }
-    fd
+// The system's words for an error, without the number that std writes behind them.
+fn words(text: &str) -> &str {
+    text.split(" (os error ").next().unwrap_or(text)
 }
 
-// Whether a file ended at its n-th byte, or went on past the room; false where a read failed.
-fn is_whole(fd: i32, n: usize, room: usize) -> bool {
-    if n == room {
-        return true;
-    }
-    let mut more = [0u8; 1];
-    libc::read(fd, &mut more) == 0
+// Says on standard error what could not be read, and why.
+fn fail(rt: &(impl Eprint + Alloc), what: &str, why: io::Error) -> io::Result<()> {
+    let text = format!(in rt.alloc(); "{why}")?;
+    let why = words(text.as_str());
+    eprintln!(rt; "{what}: {why}")
 }
 
-fn mark_files(question_fd: i32, answers_fd: i32) {
-    let mut question = [0u8; QUESTION];
-    let n = io::read_full(question_fd, &mut question);
-    if !is_whole(question_fd, n, QUESTION) {
-        os::fail(b"question file");
-        return;
+fn has_argument(rt: &impl Env, argument: usize) -> bool {
+    let mut path = [0u8; PATH];
+    match rt.arg(argument, &mut path) {
+        Err(FillError::NotPresent) => false,
+        _ => true,
     }
-    let mut answers = [0u8; ANSWERS];
-    let m = io::read_full(answers_fd, &mut answers);
-    if !is_whole(answers_fd, m, ANSWERS) {
-        os::fail(b"answers");
-        return;
-    }
-    put_marks(paper::mark::mark(&question[..n], &answers[..m]));
 }
 
-fn main() {
-    if os::arg_count() != 3 {
-        io::write_all(STDERR_FILENO, b"usage: mark QUESTION ANSWERS\n");
-        return;
+// Opens the file that an argument names. Where there is none, says so and answers none.
+fn open<R: Env + Files + Eprint + Alloc>(rt: &R, argument: usize) -> io::Result<Option<R::File>> {
+    let mut path = [0u8; PATH];
+    let n = match rt.arg(argument, &mut path) {
+        Ok(n) => n,
+        Err(_) => {
+            eprintln!(rt; "name of a file: File name too long")?;
+            return Ok(None);
+        }
+    };
+    let name = match str::from_utf8(&path[..n]) {
+        Ok(name) => name,
+        Err(_) => {
+            eprintln!(rt; "name of a file: not UTF-8")?;
+            return Ok(None);
+        }
+    };
+    match File::open(rt, name) {
+        Ok(file) => Ok(Some(file)),
+        Err(why) => {
+            fail(rt, name, why)?;
+            Ok(None)
+        }
     }
-    let question = open(1);
-    if question < 0 {
-        return;
+}
+
+fn mark_files<F: Read + Drop, R: Print + Eprint + Alloc>(
+    rt: &R,
+    question_file: F,
+    answers_file: F,
+) -> io::Result<()> {
+    let mut question = Vec::new(rt.alloc());
+    if let Err(why) = question_file
+        .take(QUESTION as u64)
+        .read_to_end(&mut question)
+    {
+        return fail(rt, "question file", why);
     }
-    let answers = open(2);
-    if answers < 0 {
-        return;
+    let mut answers = Vec::new(rt.alloc());
+    if let Err(why) = answers_file.take(ANSWERS as u64).read_to_end(&mut answers) {
+        return fail(rt, "answers", why);
     }
-    mark_files(question, answers);
-    libc::close(answers);
-    libc::close(question);
+    put_marks(rt, paper::mark::mark(&question, &answers))
+}
+
+fn main(rt: HostRuntime) -> io::Result<()> {
+    if !has_argument(&rt, 2) || has_argument(&rt, 3) {
+        return eprintln!(rt; "usage: mark QUESTION ANSWERS");
+    }
+    let Some(question) = open(&rt, 1)? else {
+        return Ok(());
+    };
+    let Some(answers) = open(&rt, 2)? else {
+        return Ok(());
+    };
+    mark_files(&rt, question, answers)
 }

@@ -2,13 +2,18 @@
 // by their bit patterns, 16 hexadecimal digits each, parted by a space. For each the answer's pattern is written, behind the letter, or `r` and the
 // number of the refusal. What the Rust reading of document 01 answered is in the file stdout, which the gate holds this program to.
 #![tactic(auto)]
+
 ghost use Rattle.std.specs.Prelude.{◌<◌, ◌≤◌, length};
 
 use half::logistic::Probability;
-use libc::STDOUT_FILENO;
+use std::io;
+use std::io::Read;
 
 // A call's bytes, with its LF.
 const LINE: usize = 53;
+
+// The most bytes of an input that are read.
+const ROOM: usize = 65536;
 
 fn byte_at(text: &[u8], at: usize) -> u8 {
     if at < text.len() { text[at] } else { 0 }
@@ -45,22 +50,19 @@ fn field(text: &[u8], at: usize) -> u64
 }
 
 // Writes an answer's line.
-fn put(kind: u8, bits: u64) {
+fn put(rt: &impl Print, kind: u8, bits: u64) -> io::Result<()> {
     let head = [kind, b' '];
-    io::write_all(STDOUT_FILENO, &head);
-    io::print_hex(STDOUT_FILENO, bits, 16);
-    io::write_all(STDOUT_FILENO, b"\n");
+    rt.write_all(&head)?;
+    println!(rt; "{bits:016x}")
 }
 
-fn answer(kind: u8, a: u64, b: u64, c: u64) {
+fn answer(rt: &impl Print, kind: u8, a: u64, b: u64, c: u64) -> io::Result<()> {
     let x = float::bits::float_of(a);
     if kind == b'h' {
-        put(kind, float::bits::bits_of(half::power::half(x)));
-        return;
+        return put(rt, kind, float::bits::bits_of(half::power::half(x)));
     }
     if kind == b'e' {
-        put(kind, float::bits::bits_of(half::logistic::exp(x)));
-        return;
+        return put(rt, kind, float::bits::bits_of(half::logistic::exp(x)));
     }
     let p = half::logistic::decode_probability(
         x,
@@ -68,30 +70,33 @@ fn answer(kind: u8, a: u64, b: u64, c: u64) {
         float::bits::float_of(c),
     );
     match p {
-        Probability::Refused(why) => put(b'r', why.number() as u64),
-        Probability::Of(y) => put(kind, float::bits::bits_of(y)),
+        Probability::Refused(why) => put(rt, b'r', why.number() as u64),
+        Probability::Of(y) => put(rt, kind, float::bits::bits_of(y)),
     }
 }
 
 // Answers each whole line.
-fn replay(text: &[u8])
+fn replay(rt: &impl Print, text: &[u8]) -> io::Result<()>
     requires { length text.now ≤ 65536 }
 {
     let mut i = 0;
     while i < text.len() / LINE {
         let at = i * LINE;
         answer(
+            rt,
             byte_at(text, at),
             field(text, at + 2),
             field(text, at + 19),
             field(text, at + 36),
-        );
+        )?;
         i += 1;
     }
+    Ok(())
 }
 
-fn main() {
-    let mut buffer = io::large_buffer();
-    let n = io::read_full(0, &mut buffer);
-    replay(&buffer[..n]);
+fn main(rt: HostRuntime) -> io::Result<()> {
+    let mut text = Vec::new(rt.alloc());
+    rt.reader().take(ROOM as u64).read_to_end(&mut text)?;
+    let n = text.len().min(ROOM);
+    replay(&rt, &text[..n])
 }

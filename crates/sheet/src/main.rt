@@ -1,30 +1,33 @@
 // Prints the sheet of the question file on standard input, or `refused` and the number. All that matters is in the crate paper.
 #![tactic(auto)]
-use libc::{STDIN_FILENO, STDOUT_FILENO};
+
 use question::bytes::part;
+use std::io;
+use std::io::Read;
 
 // One byte more than a question file may have: a longer input is seen to be too long, and is not cut to one that is not.
 const ROOM: usize = 65537;
 
 const SHEET: usize = 32768;
 
-// Whether the input ended at its n-th byte, or went on past the room; false where a read failed.
-fn is_whole(n: usize) -> bool {
-    if n == ROOM {
-        return true;
-    }
-    let mut more = [0u8; 1];
-    libc::read(STDIN_FILENO, &mut more) == 0
+// The system's words for an error, without the number that std writes behind them.
+fn words(text: &str) -> &str {
+    text.split(" (os error ").next().unwrap_or(text)
 }
 
-fn main() {
-    let mut question = [0u8; ROOM];
+// Says on standard error what could not be read, and why.
+fn fail(rt: &(impl Eprint + Alloc), what: &str, why: io::Error) -> io::Result<()> {
+    let text = format!(in rt.alloc(); "{why}")?;
+    let why = words(text.as_str());
+    eprintln!(rt; "{what}: {why}")
+}
+
+fn main(rt: HostRuntime) -> io::Result<()> {
+    let mut question = Vec::new(rt.alloc());
     let mut out = [0u8; SHEET];
-    let n = io::read_full(STDIN_FILENO, &mut question);
-    if !is_whole(n) {
-        os::fail(b"standard input");
-        return;
+    if let Err(why) = rt.reader().take(ROOM as u64).read_to_end(&mut question) {
+        return fail(&rt, "standard input", why);
     }
-    let len = paper::sheet::print_sheet(&question[..n], &mut out);
-    io::write_all(STDOUT_FILENO, part(&out, 0, len));
+    let len = paper::sheet::print_sheet(&question, &mut out);
+    rt.write_all(part(&out, 0, len))
 }

@@ -4,17 +4,22 @@
 // the number; then `usable` and the rungs that `usable_modes_by_rate` answers, or its number. What the Rust and the judge's reading of document 01
 // answered is in the file stdout, which the gate holds this program to.
 #![tactic(auto)]
+
 ghost use Rattle.std.specs.Prelude.{◌<◌, ◌≤◌};
 
 use ladder::front::Usable;
 use ladder::table::Tabled;
 use ladder::types::Rung;
-use libc::STDOUT_FILENO;
 use limits::reading::Reading;
 use limits::refusal::Verdict;
+use std::io;
+use std::io::Read;
 
 // The bytes before a record's columns.
 const HEAD: usize = 10;
+
+// The most bytes of an input that are read.
+const ROOM: usize = 65536;
 
 // Where the columns of a record begin, and where it ends.
 #[derive(Clone, Copy)]
@@ -133,9 +138,8 @@ fn places_of(record: &[u8]) -> Places
 }
 
 // ---- writing: each number behind a space
-fn put_number(n: u32) {
-    io::write_all(STDOUT_FILENO, b" ");
-    io::print_decimal(STDOUT_FILENO, n as u64);
+fn put_number(rt: &impl Print, n: u32) -> io::Result<()> {
+    print!(rt; " {n}")
 }
 
 fn most(count: u32) -> usize
@@ -144,56 +148,54 @@ fn most(count: u32) -> usize
     if count < 32 { count as usize } else { 32 }
 }
 
-fn put_rungs(rungs: [Rung; 32], count: u32) {
+fn put_rungs(rt: &impl Print, rungs: [Rung; 32], count: u32) -> io::Result<()> {
     let n = most(count);
     let mut i = 0;
     while i < n {
         let rung = rungs[i];
-        put_number(rung.0);
+        put_number(rt, rung.0)?;
         i += 1;
     }
+    Ok(())
 }
 
 // Writes the front, or the number of the refusal.
-fn put_answer(verdict: Verdict, rungs: [Rung; 32], count: u32) {
+fn put_answer(rt: &impl Print, verdict: Verdict, rungs: [Rung; 32], count: u32) -> io::Result<()> {
     match verdict {
-        Verdict::Refused(why) => put_number(why.number()),
-        Verdict::Accepted => put_rungs(rungs, count),
+        Verdict::Refused(why) => put_number(rt, why.number()),
+        Verdict::Accepted => put_rungs(rt, rungs, count),
     }
 }
 
-fn put_word(verdict: Verdict) {
+fn put_word(rt: &impl Print, verdict: Verdict) -> io::Result<()> {
     match verdict {
-        Verdict::Refused(_) => {
-            io::write_all(STDOUT_FILENO, b"refused");
-        }
-        Verdict::Accepted => {
-            io::write_all(STDOUT_FILENO, b"front");
-        }
+        Verdict::Refused(_) => rt.write_all(b"refused"),
+        Verdict::Accepted => rt.write_all(b"front"),
     }
 }
 
-fn put_table(made: Tabled) {
+fn put_table(rt: &impl Print, made: Tabled) -> io::Result<()> {
     let verdict = made.verdict;
     let table = made.table;
     let front = table.front;
     let air = table.air;
-    put_word(verdict);
-    put_answer(verdict, front, air.places);
+    put_word(rt, verdict)?;
+    put_answer(rt, verdict, front, air.places)
 }
 
-fn put_usable(usable: Usable) {
+fn put_usable(rt: &impl Print, usable: Usable) -> io::Result<()> {
     let verdict = usable.verdict;
     let front = usable.front;
     let rungs = front.rungs;
-    io::write_all(STDOUT_FILENO, b" usable");
-    put_answer(verdict, rungs, front.count);
-    io::write_all(STDOUT_FILENO, b"\n");
+    rt.write_all(b" usable")?;
+    put_answer(rt, verdict, rungs, front.count)?;
+    rt.write_all(b"\n")
 }
 
 // ---- the records
 // Writes the line of a table of these columns.
 fn put_line(
+    rt: &impl Print,
     thresholds: &[f64],
     payloads: &[u32],
     capacities: &[u32],
@@ -201,17 +203,17 @@ fn put_line(
     floors: u32,
     limits: [Reading; 32],
     limited: u32,
-) {
+) -> io::Result<()> {
     let made = ladder::table::table_for(
         thresholds, payloads, capacities, times, floors, limits, limited,
     );
-    put_table(made);
+    put_table(rt, made)?;
     let usable = ladder::front::usable_modes_by_rate(thresholds, payloads, times);
-    put_usable(usable);
+    put_usable(rt, usable)
 }
 
 // Answers a record.
-fn answer(record: &[u8], at: Places) {
+fn answer(rt: &impl Print, record: &[u8], at: Places) -> io::Result<()> {
     let thresholds = floats(from(record, HEAD));
     let payloads = wholes(from(record, at.payloads));
     let capacities = wholes(from(record, at.capacities));
@@ -224,6 +226,7 @@ fn answer(record: &[u8], at: Places) {
     let c = entries(record, 2);
     let t = entries(record, 3);
     put_line(
+        rt,
         &thresholds[..n],
         &payloads[..p],
         &capacities[..c],
@@ -231,25 +234,26 @@ fn answer(record: &[u8], at: Places) {
         floors,
         limits,
         limited,
-    );
+    )
 }
 
 // Answers each whole record. A record that runs past the end is not answered.
-fn replay(text: &[u8]) {
+fn replay(rt: &impl Print, text: &[u8]) -> io::Result<()> {
     let mut at = 0;
     while at < text.len() {
         let rest = &text[at..];
         let places = places_of(rest);
         if places.end > rest.len() {
-            return;
+            return Ok(());
         }
-        answer(rest, places);
+        answer(rt, rest, places)?;
         at += places.end;
     }
+    Ok(())
 }
 
-fn main() {
-    let mut buffer = io::large_buffer();
-    let n = io::read_full(0, &mut buffer);
-    replay(&buffer[..n]);
+fn main(rt: HostRuntime) -> io::Result<()> {
+    let mut text = Vec::new(rt.alloc());
+    rt.reader().take(ROOM as u64).read_to_end(&mut text)?;
+    replay(&rt, &text)
 }

@@ -3,15 +3,17 @@
 // threshold f64, payload u32, capacity u32, frame time f64; the limits as readings; u32 calls, and each call as u32 length and a body in the question
 // file's own form. What the Rust answered is in the file stdout, which the gate holds this program to.
 #![tactic(auto)]
-ghost use Rattle.std.specs.Prelude.{◌≡◌, ◌≤◌, length};
+
+ghost use Rattle.std.specs.Prelude.{◌≤◌};
 
 use account::types::{Core, Mark, Trying};
 use ladder::types::Rung;
-use libc::STDOUT_FILENO;
 use limits::reading::Reading;
 use limits::refusal::Verdict;
 use question::bytes::{f64_of, part, past, reading_of, u32_of};
 use rate::types::{Answer, Made, RateController, Rated};
+use std::io;
+use std::io::Read;
 
 // The bytes of a list's head, of a rung and of a reading.
 const HEAD: usize = 16;
@@ -19,6 +21,9 @@ const HEAD: usize = 16;
 const RUNG: usize = 24;
 
 const READING: usize = 9;
+
+// The most bytes of an input that are read.
+const ROOM: usize = 1048576;
 
 // ---- a line of output, held until it is whole
 #[derive(Clone, Copy)]
@@ -71,15 +76,16 @@ fn put_flag(t: Text, on: bool) -> Text {
 }
 
 // Writes the first n bytes.
-fn write_front(bytes: &[u8], n: usize) {
+fn write_front(rt: &impl Print, bytes: &[u8], n: usize) -> io::Result<()> {
     if n <= bytes.len() {
-        io::write_all(STDOUT_FILENO, &bytes[..n]);
+        return rt.write_all(&bytes[..n]);
     }
+    Ok(())
 }
 
-fn show(t: Text) {
+fn show(rt: &impl Print, t: Text) -> io::Result<()> {
     let bytes = t.bytes;
-    write_front(&bytes, t.len);
+    write_front(rt, &bytes, t.len)
 }
 
 // ---- the hash: one word more is xored in, the bits are turned left by 29, and a constant is added
@@ -275,7 +281,7 @@ fn put_tried(t: Text, y: Trying) -> Text {
 }
 
 // Writes a call's line.
-fn tell(a: Answer) {
+fn tell(rt: &impl Print, a: Answer) -> io::Result<()> {
     let k = a.controller;
     let t = k.table;
     let s = k.state;
@@ -289,26 +295,32 @@ fn tell(a: Answer) {
         put_flag(put_flag(chosen, k.refuses(Rung(air.floors))), a.ended),
         a.begun,
     );
-    show(put_number(marked, number_of(verdict)));
-    io::print_hex(STDOUT_FILENO, hash(k), 16);
-    io::write_all(STDOUT_FILENO, b"\n");
+    show(rt, put_number(marked, number_of(verdict)))?;
+    let all = hash(k);
+    println!(rt; "{all:016x}")
 }
 
 // Plays the calls from a place on, and gives the place past them.
-fn play_calls(start: RateController, bytes: &[u8], first: usize, calls: u32) -> usize {
+fn play_calls(
+    rt: &impl Print,
+    start: RateController,
+    bytes: &[u8],
+    first: usize,
+    calls: u32,
+) -> io::Result<usize> {
     let mut k = start;
     let mut at = first;
     let mut left = calls;
     while left > 0 {
         let n = u32_of(past(bytes, at)) as usize;
         let a = question::event::answer_event(k, part(bytes, further(at, 4), n));
-        tell(a);
+        tell(rt, a)?;
         let next = a.controller;
         k = next;
         at = further(at, further(4, n));
         left -= 1;
     }
-    at
+    Ok(at)
 }
 
 // The place past the calls from a place on, which are not played.
@@ -324,14 +336,14 @@ fn skip_calls(bytes: &[u8], first: usize, calls: u32) -> usize {
 }
 
 // Plays the list that begins at a place, and gives the place past it.
-fn play_list(bytes: &[u8], at: usize) -> usize {
+fn play_list(rt: &impl Print, bytes: &[u8], at: usize) -> io::Result<usize> {
     let n = u32_of(past(bytes, at));
     let limited = u32_of(past(bytes, further(at, 12)));
     if n > 32 {
-        return bytes.len();
+        return Ok(bytes.len());
     }
     if limited > 32 {
-        return bytes.len();
+        return Ok(bytes.len());
     }
     let wide = u32_of(past(bytes, further(at, 8)));
     let made = controller(bytes, at, n as usize, limited);
@@ -344,44 +356,36 @@ fn play_list(bytes: &[u8], at: usize) -> usize {
     let k = made.controller;
     match verdict {
         Verdict::Refused(why) => {
-            io::write_all(STDOUT_FILENO, b"refused ");
-            io::print_decimal(STDOUT_FILENO, why.number() as u64);
-            io::write_all(STDOUT_FILENO, b"\n");
-            skip_calls(bytes, further(calls_at, 4), calls)
+            let number = why.number();
+            println!(rt; "refused {number}")?;
+            Ok(skip_calls(bytes, further(calls_at, 4), calls))
         }
         Verdict::Accepted => {
             let t = k.table;
             let air = t.air;
-            io::write_all(STDOUT_FILENO, b"table places ");
-            io::print_decimal(STDOUT_FILENO, air.places as u64);
-            io::write_all(STDOUT_FILENO, b"\n");
-            play_calls(k.for_air(wide == 1), bytes, further(calls_at, 4), calls)
+            let places = air.places;
+            println!(rt; "table places {places}")?;
+            play_calls(rt, k.for_air(wide == 1), bytes, further(calls_at, 4), calls)
         }
     }
 }
 
 // Plays each list. Each takes some bytes, so there are no more lists than bytes.
-fn play(bytes: &[u8]) {
+fn play(rt: &impl Print, bytes: &[u8]) -> io::Result<()> {
     let mut at = 0;
     let mut left = bytes.len();
     while left > 0 {
         if at >= bytes.len() {
-            return;
+            return Ok(());
         }
-        at = play_list(bytes, at);
+        at = play_list(rt, bytes, at)?;
         left -= 1;
     }
+    Ok(())
 }
 
-// Room for the whole input.
-fn room() -> [u8; 1048576]
-    ensures { 1048576 ≡ length result }
-{
-    [0; 1048576]
-}
-
-fn main() {
-    let mut buffer = room();
-    let n = io::read_full(0, &mut buffer);
-    play(&buffer[..n]);
+fn main(rt: HostRuntime) -> io::Result<()> {
+    let mut lists = Vec::new(rt.alloc());
+    rt.reader().take(ROOM as u64).read_to_end(&mut lists)?;
+    play(&rt, &lists)
 }
