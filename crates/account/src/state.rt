@@ -77,7 +77,7 @@ pub fn fresh_state() -> State
     let accounts = [none; 32];
     let since = [0.0f64; 32];
     let wait = [PROBE_EVERY; 32];
-    let core = crate::core::fresh_core();
+    let core = crate::cores::fresh_core();
     State {
         accounts,
         since,

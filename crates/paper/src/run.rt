@@ -67,7 +67,7 @@ pub(crate) fn run(file: &[u8], log: &mut [u32])
     let mut books = [0.0f64; 96];
     let mut since = [0.0f64; 32];
     let mut wait = [PROBE_EVERY; 32];
-    let mut c = account::core::fresh_core();
+    let mut c = account::cores::fresh_core();
     let mut p = account::state::unpriced_prices();
     let mut last = 0.0;
     let mut at: usize = 0;
@@ -83,7 +83,7 @@ pub(crate) fn run(file: &[u8], log: &mut [u32])
         at += 3;
         p = prices_after(p, body);
         let next = m.core;
-        c = account::core::same_core(next);
+        c = account::cores::same_core(next);
         last = a.faded;
         i += 1;
     }

@@ -44,7 +44,7 @@ same_accepted k (f ∷ fs) snr =
 
 pub passes_step : (k : RateController) (fs : List Frame) (snr : Reading) → observed_frames k fs snr ≡ step k (Frames fs snr)
 unfolding finish_frames step
-passes_step k fs snr = ap (answer_frames k _ _ snr) (same_verdict k fs snr) ∙ go (verdict k.table (Frames fs snr))
+passes_step k fs snr = ap (answer_frames k (check_all (begin_checks k) fs) (book_all (begin_pass k snr) fs) snr) (same_verdict k fs snr) ∙ go (verdict k.table (Frames fs snr))
   where
     go : (w : Verdict) → answer_frames k (check_all (begin_checks k) fs) (book_all (begin_pass k snr) fs) snr w ≡ answered k (Frames fs snr) w
     go Accepted = same_accepted k fs snr

@@ -115,7 +115,7 @@ fn transmit(k: RateController, y: Tally, snr: Reading) -> Answer
             },
         },
         verdict: Verdict::Accepted,
-        ended: account::core::was_ended(before, after, d.begun),
+        ended: account::cores::was_ended(before, after, d.begun),
         begun: d.begun,
     }
 }

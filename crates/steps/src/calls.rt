@@ -20,7 +20,7 @@ pub fn done(before: Trying, c: Core, begun: bool) -> Moved
     ensures { result ≡ done_move before c begun }
 {
     let after = c.trying;
-    let ended = account::core::was_ended(before, after, begun);
+    let ended = account::cores::was_ended(before, after, begun);
     Moved {
         core: c,
         verdict: Verdict::Accepted,

@@ -15,7 +15,7 @@ use crate::read::{
     account_in, full_air_in, is_out, lossless_in, rung_in, set_time, time_in, value_in, wait_in,
 };
 use crate::types::Decision;
-use account::core::{with_place, with_trying};
+use account::cores::{with_place, with_trying};
 use account::types::{Core, Prices, Trying};
 use ladder::types::{Air, Place, Rung};
 use rules::lowest::Best;

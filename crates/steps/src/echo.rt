@@ -9,7 +9,7 @@ ghost use Rattle.rules.specs.Lowest.{improved, greatest};
 ghost use Rattle.steps.specs.bridges.Held.{Lent, rows_in, rung_in, laid, rated, bare};
 
 use crate::read::{is_out, rung_in, value_in};
-use account::core::{with_echo, with_place, with_snr, with_trying};
+use account::cores::{with_echo, with_place, with_snr, with_trying};
 use account::types::{Core, Prices, Trying};
 use ladder::types::{Air, Place, Rung};
 use limits::reading::Reading;

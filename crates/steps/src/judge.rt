@@ -10,7 +10,7 @@ ghost use Rattle.steps.specs.bridges.Held.{Lent, Sized, laid, rung_in, held, rat
 
 use crate::echo::is_usable;
 use crate::read::{full_air_in, rung_in, set_time, set_wait, value_in, wait_in};
-use account::core::{with_place, with_trying};
+use account::cores::{with_place, with_trying};
 use account::types::{Core, Prices, Trying};
 use ladder::types::{Air, Place, Rung};
 

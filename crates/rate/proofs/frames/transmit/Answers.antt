@@ -5,12 +5,6 @@ use mathlib.Core.Path.{sym}
 use Rattle.rate.proofs.Framing.{transmit_front}
 use Rattle.rate.proofs.frames.transmit.Goals as goal
 
-since-long : (c : tie.Start) → length c.args.k.state.since ≡ 32
-since-long c = search rules
-
-wait-long : (c : tie.Start) → length c.args.k.state.wait ≡ 32
-wait-long c = search (rules, c.well-formed.0.1.1.1.1.0)
-
 pub returns : goal.returns
 returns c =
     let a = c.args in
