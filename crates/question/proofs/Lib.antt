@@ -5,4 +5,3 @@ pub mod Bodies
 pub mod Pairs
 pub mod Events
 pub mod Held
-pub mod Readers

@@ -1,0 +1,6 @@
+-- `event::prices_event` meets its contract.
+use borrow.Author.Rules.{rules}
+use Rattle.question.proofs.event.prices_event.Goals as goal
+
+pub returns : goal.returns
+returns c = rw (c.price_bursts.ensures, c.f64_of-gap.ensures, c.past-3.ensures, c.f64_of-ordinary.ensures, c.past-2.ensures, c.f64_of-floor.ensures, c.past.ensures)

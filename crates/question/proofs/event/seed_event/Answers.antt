@@ -1,0 +1,6 @@
+-- `event::seed_event` meets its contract.
+use borrow.Author.Rules.{rules}
+use Rattle.question.proofs.event.seed_event.Goals as goal
+
+pub returns : goal.returns
+returns c = rw (c.seed.ensures, c.f64_of.ensures, c.past.ensures)

@@ -1,0 +1,6 @@
+-- `event::silence_event` meets its contract.
+use borrow.Author.Rules.{rules}
+use Rattle.question.proofs.event.silence_event.Goals as goal
+
+pub returns : goal.returns
+returns c = rw (c.silent.ensures, c.u32_of.ensures, c.past.ensures)

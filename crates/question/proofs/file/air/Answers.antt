@@ -1,0 +1,6 @@
+-- `file::air` meets its contract.
+use borrow.Author.Rules.{rules}
+use Rattle.question.proofs.file.air.Goals as goal
+
+pub returns : goal.returns
+returns c = rw (c.u32_of.ensures, c.past.ensures)

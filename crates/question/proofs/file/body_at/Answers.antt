@@ -1,0 +1,8 @@
+-- `file::body_at` meets its contract.
+use Rattle.question.specs.File.{body_at}
+use borrow.Author.Rules.{rules}
+use Rattle.question.proofs.file.body_at.Goals as goal
+
+pub returns : goal.returns
+unfolding body_at
+returns c = rw (c.part.ensures, c.length_at-len.ensures, c.offset_at-at.ensures)

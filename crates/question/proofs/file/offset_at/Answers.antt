@@ -1,0 +1,8 @@
+-- `file::offset_at` meets its contract.
+use Rattle.question.specs.File.{offset_at}
+use borrow.Author.Rules.{rules}
+use Rattle.question.proofs.file.offset_at.Goals as goal
+
+pub returns : goal.returns
+unfolding offset_at
+returns c = rw (c.u32_of.ensures, c.past.ensures)
