@@ -1,0 +1,123 @@
+-- `run::run` meets its contract. The invariant: the arrays and what else the loop keeps are the controller that the events below the i-th leave, their outcomes
+use borrow.Author.Rules.{rules}
+use Rattle.std.specs.Prelude.{◌≡◌, ℕ, ◌-◌, ◌*◌, ◌<◌, ◌≤◌, List, length, replicate}
+use mathlib.Core.Path.{refl, sym, ◌∙◌}
+use native.Mathlib.Omega.{arith}
+use borrow.Author.Tests.{not-true, not-false}
+use Rattle.float.specs.Numbers.{f0}
+use Rattle.steps.specs.bridges.Held.{Lent, laid}
+use Rattle.rate.specs.bridges.Playing.{playing}
+use Rattle.steps.specs.bridges.Pass.{Kept}
+use Rattle.question.specs.File.{event_count}
+use Rattle.question.proofs.Over.{Partly, partly_start, partly_within, partly_lent, partly_next, partly_end}
+use Rattle.question.proofs.Events.{before_end, past_end}
+use Rattle.paper.proofs.Playing.{first_playing}
+use Rattle.paper.specs.bridges.Said.{said_from, said}
+use Rattle.paper.specs.bridges.Outcomes.{outcomes_of}
+use Rattle.paper.proofs.Running.{calls_from, none_kept, outcomes_start, outcomes_end, next_outcome}
+use Rattle.paper.proofs.run.run.Goals as goal
+
+stays : {A : Type 0} (xs ys : List A) (n : ℕ) → length xs ≡ length ys → length ys ≡ n → length xs ≡ n
+stays xs ys n e f = e ∙ f
+
+less : (c : tie.After-read-body invariant-loop decreases-loop) → let i = c.before.before.before.loop.i in let file = c.before.before.before.before.before.before.before.before.before.before.before.before.before.before.before.before.args.file.now in (i < event_count file) × (event_count file < 4294967296)
+less c = (before_end _ _ _ c.before.before.read-end.ensures.0 (not-true _ c.before.if1.true), c.before.before.read-end.ensures.1)
+
+lent : (c : tie.After-lay-table invariant-loop decreases-loop) → Lent c.lay-table.new.1.0 c.lay-table.new.1.1.0
+lent c = search rules
+
+pub loop-t-init : goal.loop-t-init
+loop-t-init c =
+    let file = c.args.file.now in
+    let table = c.lay_table.ensures ∙ c.table_of-table.ensures in
+    let e = outcomes_start file _ _ c.air.ensures (first_playing _ _ c.unpriced_prices-p.result c.fresh_core-c.result table c.unpriced_prices-p.ensures c.fresh_core-c.ensures) in
+    (search rules, refl, rw e (partly_start _ _), refl, refl, refl, refl, none_kept (laid c.table_of-table.result.air c.lay_table.new.reals c.lay_table.new.wholes) (replicate 96 f0))
+
+pub slice_bounds-play_event-end : goal.slice_bounds-play_event-end
+slice_bounds-play_event-end c =
+    sym (lent c).of_reals
+
+pub slice_bounds-play_event-end-in-loop-t : goal.slice_bounds-play_event-end-in-loop-t
+slice_bounds-play_event-end-in-loop-t c =
+    sym (lent c).of_wholes
+
+pub slice_bounds-play_event-end-in-loop-t-2 : goal.slice_bounds-play_event-end-in-loop-t-2
+slice_bounds-play_event-end-in-loop-t-2 c =
+    sym c.loop-t.invariant.3
+
+pub slice_bounds-play_event-end-in-loop-t-3 : goal.slice_bounds-play_event-end-in-loop-t-3
+slice_bounds-play_event-end-in-loop-t-3 c =
+    sym c.loop-t.invariant.4
+
+pub slice_bounds-play_event-end-in-loop-t-4 : goal.slice_bounds-play_event-end-in-loop-t-4
+slice_bounds-play_event-end-in-loop-t-4 c =
+    sym c.loop-t.invariant.5
+
+pub slice_bounds-play_event-end-in-loop-t-5 : goal.slice_bounds-play_event-end-in-loop-t-5
+slice_bounds-play_event-end-in-loop-t-5 c =
+    sym c.loop-t.invariant.6
+
+pub play_event-a-requires : goal.play_event-a-requires
+play_event-a-requires c =
+    let v = c.loop-t.invariant in
+    record { lent = lent c; fades_len = v.3; sized = record { of_books = v.4; of_since = v.5; of_wait = v.6 }; kept = v.7 }
+
+pub slice_bounds-line_of-end : goal.slice_bounds-line_of-end
+slice_bounds-line_of-end c =
+    sym (lent c).of_reals
+
+pub slice_bounds-line_of-end-in-loop-t : goal.slice_bounds-line_of-end-in-loop-t
+slice_bounds-line_of-end-in-loop-t c =
+    sym (lent c).of_wholes
+
+pub line_of-requires : goal.line_of-requires
+line_of-requires c =
+    lent c
+
+pub offset_bounds-log-at : goal.offset_bounds-log-at
+offset_bounds-log-at c =
+    search (rules, less c, c.loop-t.invariant.1)
+
+pub slice_bounds-put_outcome-count : goal.slice_bounds-put_outcome-count
+slice_bounds-put_outcome-count c =
+    (partly_within c.loop-t.invariant.2).0
+
+pub put_outcome-requires : goal.put_outcome-requires
+put_outcome-requires c =
+    omega (arith, partly_lent c.loop-t.invariant.2, less c, c.loop-t.invariant.1, c.requires)
+
+pub overflow_add-at : goal.overflow_add-at
+overflow_add-at c =
+    search (rules, less c, c.loop-t.invariant.1)
+
+pub overflow_add-i : goal.overflow_add-i
+overflow_add-i c =
+    search (rules, less c)
+
+pub loop-t-smaller : goal.loop-t-smaller
+loop-t-smaller c =
+    search (rules, less c)
+
+pub loop-t-preserved : goal.loop-t-preserved
+loop-t-preserved c =
+    let s = c in
+    let l = c.loop-t in
+    let h = less c in
+    let y = c.play_event-a in
+    let file = s.args.file.now in
+    let next = next_outcome file _ l.i _ l.p _ l.books y.new.books l.since y.new.since l.wait y.new.wait l.c y.result.moved _ _ _ h.0 c.read_body-body.ensures y.ensures.moved_value y.ensures.core_after c.prices_after-p.ensures c.Line_of.ensures c.outcome_of-o.ensures in
+    rw c.same_core-c.ensures (
+      omega (arith, h),
+      omega (arith, l.invariant.1),
+      partly_next l.invariant.2 next (omega (arith, h, l.invariant.1, s.requires)) _ 3 refl c.put_outcome.ensures,
+      stays y.new.fades l.fades 96 y.auto.1.1.1.1.0 l.invariant.3,
+      stays y.new.books l.books 96 y.auto.1.1.1.1.1.0 l.invariant.4,
+      stays y.new.since l.since 32 y.auto.1.1.1.1.1.1.0 l.invariant.5,
+      stays y.new.wait l.wait 32 y.auto.1.1.1.1.1.1.1.0 l.invariant.6,
+      y.ensures.kept_2,
+    )
+
+pub returns : goal.returns
+returns c =
+    let file = c.args.file.now in
+    (partly_end c.loop-t.invariant.2 (outcomes_end file (event_count file) c.loop-t.i _ (past_end _ _ _ c.read_end.ensures.0 (not-false _ c.loop-t-test.false)))).1
