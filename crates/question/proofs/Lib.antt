@@ -5,3 +5,4 @@ pub mod Bodies
 pub mod Pairs
 pub mod Events
 pub mod Held
+pub mod Readers

@@ -13,7 +13,7 @@ pub returns-then-frame_count-eq0 : goal.returns-then-frame_count-eq0
 returns-then-frame_count-eq0 c =
     let a = c.args in
     let none : length (frames_in a.body.now) ≡ 0 = length_frames a.body.now ∙ sym c.frame_count.ensures ∙ c.if-frame_count-eq0.true in
-    record { moved_after = rw c.done-moved.ensures (empty_accepted (laid a.t a.reals.now a.wholes.now) a.p a.books.now a.since.now a.wait.now a.c (frames_in a.body.now) a.snr c.observe_snr-z.result c.observe_snr-z.ensures none); kept_2 = c.requires.kept, }
+    record { moved_after = rw c.done-moved.ensures (empty_accepted (laid a.t a.reals.now a.wholes.now) a.p a.books.now a.since.now a.wait.now a.c (frames_in a.body.now) a.snr c.observe_snr-z.result c.observe_snr-z.ensures none); kept_2 = c.requires.kept; }
 
 pub book_body-b-requires : goal.book_body-b-requires
 book_body-b-requires c =

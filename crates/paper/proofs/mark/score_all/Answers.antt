@@ -17,7 +17,7 @@ pub outcome_at-o-requires : goal.outcome_at-o-requires
 outcome_at-o-requires c = omega (arith, log_room c.args.file.now c.args.log.now c.requires.logged, c.event_count-i-end.ensures)
 
 pub bounds-answers-at : goal.bounds-answers-at
-bounds-answers-at c = omega (arith, c.event_count-i-end.ensures, c.requires.file_in_bounds)
+bounds-answers-at c = omega (arith, c.event_count-i-end.ensures, c.requires.answers_len)
 
 pub loop-i-preserved : goal.loop-i-preserved
 loop-i-preserved c =
@@ -26,7 +26,7 @@ loop-i-preserved c =
     let h : l.i < event_count a.file.now = omega (arith, c.event_count-i-end.ensures) in
     let e = outcome_score a.file.now a.log.now c.requires.logged l.i _ c.outcome_at-o.ensures h l.m _ _ c.score-scored.ensures in
     let most = scored_most l.m (line_at (said a.file.now) l.i) (get_or a.answers.now l.i 0) c.score-scored.result e in
-    (omega arith, omega arith, omega arith, rw e (score_next (said a.file.now) l.i l.m a.answers.now (omega (arith, said_length a.file.now)) (omega (arith, c.requires.file_in_bounds))) ∙ l.invariant.3)
+    (omega arith, omega arith, omega arith, rw e (score_next (said a.file.now) l.i l.m a.answers.now (omega (arith, said_length a.file.now)) (omega (arith, c.requires.answers_len))) ∙ l.invariant.3)
 
 pub returns : goal.returns
 returns c =
