@@ -9,20 +9,16 @@ use Rattle.question.specs.Body.{frames_in}
 use Rattle.steps.specs.bridges.Held.{laid}
 use Rattle.paper.proofs.frames.frames_event.Goals as goal
 
-told : (c : tie.After-frames-verdict) → c.before.before.reading-of.result ≡ reading_of (drop 1 c.before.before.before.before.before.before.before.before.before.before.before.args.body.now)
-told c = c.before.before.reading-of.ensures ∙ ap reading_of c.before.before.before.past.ensures
-
-judged : (c : tie.After-frames-verdict) → let a = c.before.before.before.before.before.before.before.before.before.before.before.args in c.frames-verdict.result ≡ verdict (laid a.t a.reals.now a.wholes.now) (Frames (frames_in a.body.now) c.before.before.reading-of.result)
-judged c =
-    let a = c.before.before.before.before.before.before.before.before.before.before.before.args in
-    c.frames-verdict.ensures ∙ frames_verdict_lem (laid a.t a.reals.now a.wholes.now) (frames_in a.body.now) c.before.before.reading-of.result c.before.check-body.result c.before.check-body.ensures
-
 pub returns-in-Accepted : goal.returns-in-Accepted
 returns-in-Accepted c =
     let a = c.args in
-    record { moved_after = rw (← told c, ← accepted_step (laid a.t a.reals.now a.wholes.now) a.p a.books.now a.since.now a.wait.now a.c (frames_in a.body.now) c.reading_of-snr.result c.frames_verdict.result (judged c) c.in-Accepted.is) c.take_frames.ensures.moved_after; kept_2 = c.take_frames.ensures.kept_2 }
+    let told : c.reading_of-snr.result ≡ reading_of (drop 1 a.body.now) = c.reading_of-snr.ensures ∙ ap reading_of c.past.ensures in
+    let judged : c.frames_verdict.result ≡ verdict (laid a.t a.reals.now a.wholes.now) (Frames (frames_in a.body.now) c.reading_of-snr.result) = c.frames_verdict.ensures ∙ frames_verdict_lem (laid a.t a.reals.now a.wholes.now) (frames_in a.body.now) c.reading_of-snr.result c.check_body-v.result c.check_body-v.ensures in
+    record { moved_after = rw (← told, ← accepted_step (laid a.t a.reals.now a.wholes.now) a.p a.books.now a.since.now a.wait.now a.c (frames_in a.body.now) c.reading_of-snr.result c.frames_verdict.result judged c.in-Accepted.is) c.take_frames.ensures.moved_after; kept_2 = c.take_frames.ensures.kept_2 }
 
 pub returns-in-Refused : goal.returns-in-Refused
 returns-in-Refused c =
     let a = c.args in
-    record { moved_after = rw (← told c, c.refused-moved.ensures) (refused_step (laid a.t a.reals.now a.wholes.now) a.p a.books.now a.since.now a.wait.now a.c (frames_in a.body.now) c.reading_of-snr.result c.frames_verdict.result (judged c) _ c.in-Refused.is); kept_2 = c.requires.kept }
+    let told : c.reading_of-snr.result ≡ reading_of (drop 1 a.body.now) = c.reading_of-snr.ensures ∙ ap reading_of c.past.ensures in
+    let judged : c.frames_verdict.result ≡ verdict (laid a.t a.reals.now a.wholes.now) (Frames (frames_in a.body.now) c.reading_of-snr.result) = c.frames_verdict.ensures ∙ frames_verdict_lem (laid a.t a.reals.now a.wholes.now) (frames_in a.body.now) c.reading_of-snr.result c.check_body-v.result c.check_body-v.ensures in
+    record { moved_after = rw (← told, c.refused-moved.ensures) (refused_step (laid a.t a.reals.now a.wholes.now) a.p a.books.now a.since.now a.wait.now a.c (frames_in a.body.now) c.reading_of-snr.result c.frames_verdict.result judged _ c.in-Refused.is); kept_2 = c.requires.kept }

@@ -4,4 +4,4 @@ use borrow.Author.Rules.{rules}
 use Rattle.paper.proofs.mark.long_score.Goals as goal
 
 pub score_all-requires : goal.score_all-requires
-score_all-requires c = let r = (logged _ _ _ c.run.ensures, c.requires.answers_len) in record { logged = r.0; answers_len = r.1 }
+score_all-requires c = record { logged = logged _ _ _ c.run.ensures; answers_len = c.requires.answers_len }

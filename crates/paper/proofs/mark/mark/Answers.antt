@@ -9,7 +9,7 @@ use borrow.Author.Rules.{rules}
 use Rattle.paper.proofs.mark.mark.Goals as goal
 
 pub run_score-requires : goal.run_score-requires
-run_score-requires c = let r = (few_events _ (sym c.file_verdict-verdict.ensures ∙ c.in-Accepted.is), c.if-answers-event_count.true ∙ c.event_count.ensures) in record { file_bound = r.0; answers_len = r.1 }
+run_score-requires c = record { file_bound = few_events _ (sym c.file_verdict-verdict.ensures ∙ c.in-Accepted.is); answers_len = c.if-answers-event_count.true ∙ c.event_count.ensures }
 
 pub returns-then-answers-event_count : goal.returns-then-answers-event_count
 unfolding mark_answer mark_verdict

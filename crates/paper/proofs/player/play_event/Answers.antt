@@ -14,7 +14,7 @@ returns-then-byte_at-eq1 c =
     let k = c.byte_at.ensures.0 in
     let e = call_frames a.body.now (rw (← k) (eq-eqb _ 1 c.if-byte_at-eq1.true)) in
     let q = c.frames_event.ensures in
-    record { moved_value = rw (e, ← q.0) refl; core_after = rw (e, ← q.0) refl; kept_2 = q.1 }
+    record { moved_value = rw (e, ← q.moved_after) refl; core_after = rw (e, ← q.moved_after) refl; kept_2 = q.kept_2 }
 
 pub light_event-moved-requires : goal.light_event-moved-requires
 light_event-moved-requires c =

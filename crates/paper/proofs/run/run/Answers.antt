@@ -3,7 +3,6 @@ use borrow.Author.Rules.{rules}
 use Rattle.std.specs.Prelude.{◌≡◌, ℕ, ◌-◌, ◌*◌, ◌<◌, ◌≤◌, List, length, replicate}
 use mathlib.Core.Path.{refl, sym, ◌∙◌}
 use native.Mathlib.Omega.{arith}
-use borrow.Author.Tests.{not-true, not-false}
 use Rattle.float.specs.Numbers.{f0}
 use Rattle.steps.specs.bridges.Held.{Lent, laid}
 use Rattle.rate.specs.bridges.Playing.{playing}
@@ -20,12 +19,6 @@ use Rattle.paper.proofs.run.run.Goals as goal
 stays : {A : Type 0} (xs ys : List A) (n : ℕ) → length xs ≡ length ys → length ys ≡ n → length xs ≡ n
 stays xs ys n e f = e ∙ f
 
-less : (c : tie.After-read-body invariant-loop decreases-loop) → let i = c.before.before.before.loop.i in let file = c.before.before.before.before.before.before.before.before.before.before.before.before.before.before.before.before.args.file.now in (i < event_count file) × (event_count file < 4294967296)
-less c = (before_end _ _ _ c.before.before.read-end.ensures.0 (not-true _ c.before.if1.true), c.before.before.read-end.ensures.1)
-
-lent : (c : tie.After-lay-table invariant-loop decreases-loop) → Lent c.lay-table.new.1.0 c.lay-table.new.1.1.0
-lent c = search rules
-
 pub loop-t-init : goal.loop-t-init
 loop-t-init c =
     let file = c.args.file.now in
@@ -35,11 +28,13 @@ loop-t-init c =
 
 pub slice_bounds-play_event-end : goal.slice_bounds-play_event-end
 slice_bounds-play_event-end c =
-    sym (lent c).of_reals
+    let q : Lent c.lay_table.new.reals c.lay_table.new.wholes = search rules in
+    sym q.of_reals
 
 pub slice_bounds-play_event-end-in-loop-t : goal.slice_bounds-play_event-end-in-loop-t
 slice_bounds-play_event-end-in-loop-t c =
-    sym (lent c).of_wholes
+    let q : Lent c.lay_table.new.reals c.lay_table.new.wholes = search rules in
+    sym q.of_wholes
 
 pub slice_bounds-play_event-end-in-loop-t-2 : goal.slice_bounds-play_event-end-in-loop-t-2
 slice_bounds-play_event-end-in-loop-t-2 c =
@@ -59,24 +54,29 @@ slice_bounds-play_event-end-in-loop-t-5 c =
 
 pub play_event-a-requires : goal.play_event-a-requires
 play_event-a-requires c =
+    let q : Lent c.lay_table.new.reals c.lay_table.new.wholes = search rules in
     let v = c.loop-t.invariant in
-    record { lent = lent c; fades_len = v.3; sized = record { of_books = v.4; of_since = v.5; of_wait = v.6 }; kept = v.7 }
+    record { lent = q; fades_len = v.3; sized = record { of_books = v.4; of_since = v.5; of_wait = v.6 }; kept = v.7 }
 
 pub slice_bounds-line_of-end : goal.slice_bounds-line_of-end
 slice_bounds-line_of-end c =
-    sym (lent c).of_reals
+    let q : Lent c.lay_table.new.reals c.lay_table.new.wholes = search rules in
+    sym q.of_reals
 
 pub slice_bounds-line_of-end-in-loop-t : goal.slice_bounds-line_of-end-in-loop-t
 slice_bounds-line_of-end-in-loop-t c =
-    sym (lent c).of_wholes
+    let q : Lent c.lay_table.new.reals c.lay_table.new.wholes = search rules in
+    sym q.of_wholes
 
 pub line_of-requires : goal.line_of-requires
 line_of-requires c =
-    lent c
+    let q : Lent c.lay_table.new.reals c.lay_table.new.wholes = search rules in
+    q
 
 pub offset_bounds-log-at : goal.offset_bounds-log-at
 offset_bounds-log-at c =
-    search (rules, less c, c.loop-t.invariant.1)
+    let n : (c.loop-t.i < event_count c.args.file.now) × (event_count c.args.file.now < 4294967296) = (before_end _ _ _ c.read_end.ensures.0 c.loop-t-test.true, c.read_end.ensures.1) in
+    search (rules, n, c.loop-t.invariant.1)
 
 pub slice_bounds-put_outcome-count : goal.slice_bounds-put_outcome-count
 slice_bounds-put_outcome-count c =
@@ -84,40 +84,43 @@ slice_bounds-put_outcome-count c =
 
 pub put_outcome-requires : goal.put_outcome-requires
 put_outcome-requires c =
-    omega (arith, partly_lent c.loop-t.invariant.2, less c, c.loop-t.invariant.1, c.requires)
+    let n : (c.loop-t.i < event_count c.args.file.now) × (event_count c.args.file.now < 4294967296) = (before_end _ _ _ c.read_end.ensures.0 c.loop-t-test.true, c.read_end.ensures.1) in
+    omega (arith, partly_lent c.loop-t.invariant.2, n, c.loop-t.invariant.1, c.requires)
 
 pub overflow_add-at : goal.overflow_add-at
 overflow_add-at c =
-    search (rules, less c, c.loop-t.invariant.1)
+    let n : (c.loop-t.i < event_count c.args.file.now) × (event_count c.args.file.now < 4294967296) = (before_end _ _ _ c.read_end.ensures.0 c.loop-t-test.true, c.read_end.ensures.1) in
+    search (rules, n, c.loop-t.invariant.1)
 
 pub overflow_add-i : goal.overflow_add-i
 overflow_add-i c =
-    search (rules, less c)
+    let n : (c.loop-t.i < event_count c.args.file.now) × (event_count c.args.file.now < 4294967296) = (before_end _ _ _ c.read_end.ensures.0 c.loop-t-test.true, c.read_end.ensures.1) in
+    search (rules, n)
 
 pub loop-t-smaller : goal.loop-t-smaller
 loop-t-smaller c =
-    search (rules, less c)
+    let n : (c.loop-t.i < event_count c.args.file.now) × (event_count c.args.file.now < 4294967296) = (before_end _ _ _ c.read_end.ensures.0 c.loop-t-test.true, c.read_end.ensures.1) in
+    search (rules, n)
 
 pub loop-t-preserved : goal.loop-t-preserved
 loop-t-preserved c =
-    let s = c in
+    let n : (c.loop-t.i < event_count c.args.file.now) × (event_count c.args.file.now < 4294967296) = (before_end _ _ _ c.read_end.ensures.0 c.loop-t-test.true, c.read_end.ensures.1) in
     let l = c.loop-t in
-    let h = less c in
     let y = c.play_event-a in
-    let file = s.args.file.now in
-    let next = next_outcome file _ l.i _ l.p _ l.books y.new.books l.since y.new.since l.wait y.new.wait l.c y.result.moved _ _ _ h.0 c.read_body-body.ensures y.ensures.moved_value y.ensures.core_after c.prices_after-p.ensures c.Line_of.ensures c.outcome_of-o.ensures in
+    let file = c.args.file.now in
+    let next = next_outcome file _ l.i _ l.p _ l.books y.new.books l.since y.new.since l.wait y.new.wait l.c y.result.moved _ _ _ n.0 c.read_body-body.ensures y.ensures.moved_value y.ensures.core_after c.prices_after-p.ensures c.line_of.ensures c.outcome_of-o.ensures in
     rw c.same_core-c.ensures (
-      omega (arith, h),
+      omega (arith, n),
       omega (arith, l.invariant.1),
-      partly_next l.invariant.2 next (omega (arith, h, l.invariant.1, s.requires)) _ 3 refl c.put_outcome.ensures,
-      stays y.new.fades l.fades 96 y.auto.1.1.1.1.0 l.invariant.3,
-      stays y.new.books l.books 96 y.auto.1.1.1.1.1.0 l.invariant.4,
-      stays y.new.since l.since 32 y.auto.1.1.1.1.1.1.0 l.invariant.5,
-      stays y.new.wait l.wait 32 y.auto.1.1.1.1.1.1.1.0 l.invariant.6,
+      partly_next l.invariant.2 next (omega (arith, n, l.invariant.1, c.requires)) _ 3 refl c.put_outcome.ensures,
+      stays y.new.fades l.fades 96 y.auto.fades l.invariant.3,
+      stays y.new.books l.books 96 y.auto.books l.invariant.4,
+      stays y.new.since l.since 32 y.auto.since l.invariant.5,
+      stays y.new.wait l.wait 32 y.auto.wait l.invariant.6,
       y.ensures.kept_2,
     )
 
 pub returns : goal.returns
 returns c =
     let file = c.args.file.now in
-    (partly_end c.loop-t.invariant.2 (outcomes_end file (event_count file) c.loop-t.i _ (past_end _ _ _ c.read_end.ensures.0 (not-false _ c.loop-t-test.false)))).1
+    (partly_end c.loop-t.invariant.2 (outcomes_end file (event_count file) c.loop-t.i _ (past_end _ _ _ c.read_end.ensures.0 c.loop-t-test.false))).1
