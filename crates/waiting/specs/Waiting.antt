@@ -99,7 +99,7 @@ pub record Quiet (i : ℕ) (p : Tariff) (k : RateController) : Type 0 where
   pub choice_stays : k.state.core.place.0 ≡ i
   -- "and prices stay"
   pub prices_stay : k.prices.tariff ≡ p
-  -- "no try is running"; `marks-tell`, below, ties this to the marks
+  -- "no try is running"; `marks_tell`, below, ties this to the marks
   pub no_try : k.state.core.trying ≡ Nothing
   -- "echo allows the choice"; "echo allows a rung that exists and is not out"
   pub choice_allowed : T (usable k.table k.state i)
