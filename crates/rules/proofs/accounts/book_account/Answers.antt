@@ -1,4 +1,4 @@
--- The frame's rung is this one or not, as the definition asks; `own-fade` is what the constant is.
+-- The frame's rung is this one or not, as the definition asks; `own_fade_lem` is what the constant is.
 use mathlib.Core.Path.{refl}
 use borrow.Author.Tests.{eq-eqb}
 use Rattle.rules.proofs.Fade.{own_fade_lem}
