@@ -1,12 +1,11 @@
 -- Division by a value above 0 is one rounding, and keeps the order. Assumes nothing.
-use mathlib.Core.Path.{◌≡◌, refl, sym, ap, ◌∙◌, subst}
-use mathlib.Core.Logic.{◌⊎◌, inl, inr}
-use Prim.Native.Nat.{ℕ, zero, suc, ◌+◌, ◌-◌, ◌*◌, ◌≤◌, ◌<◌, zero-le}
+use mathlib.Core.Path.{ap}
+use mathlib.Core.Logic.{inl, inr}
+use Prim.Native.Nat.{ℕ, ◌+◌, ◌*◌, ◌≤◌, ◌<◌, zero-le}
 use native.Mathlib.Nat.{zero-mul, mul_comm, mul_assoc, mul_left_comm, add-mul, mul-le-mul_right, mul-pos}
 use native.Mathlib.Omega.{arith}
 use mathlib.Core.Bool.{Bool, true, false, cond}
 use lib.Dec.{T, ltb, eqb, ltb→lt, eqb→eq}
-use lib.IntN.{ℤ}
 use lib.Ieee.{Float, nan, inf, fin, Format, unlike, up, down, round, div, le}
 use lib.Ieee.Fits.{up_pos}
 use lib.Ieee.Scale.{finite}

@@ -1,8 +1,8 @@
 -- A value that the format holds is its own rounding, so a sum with a value that is at least 0 is no smaller. Assumes nothing.
-use mathlib.Core.Path.{◌≡◌, refl, sym, ap, ◌∙◌, subst}
+use mathlib.Core.Path.{◌≡◌, refl, sym, ap, ◌∙◌}
 use mathlib.Core.Logic.{inl, inr}
 use Prim.Native.Nat.{ℕ, zero, suc, ◌+◌, ◌-◌, ◌*◌, ◌%◌, ◌^◌, ◌≤◌, ◌<◌, zero-le}
-use native.Mathlib.Nat.{le_refl, le_of_eq, le_trans, le_of_lt, lt_of_lt_of_le, le_of_suc-le-suc, lt_of_not-le, lt_of_le_of_lt, not-le_of_lt, zero-mul, mul-zero, mul-one, mul_comm, mul_assoc, mul_right_comm, add-mul, mul-le-mul_right, mul-le-mul_left, mul-lt-mul_of_pos_right, mul-pos}
+use native.Mathlib.Nat.{le_refl, le_of_eq, le_trans, lt_of_lt_of_le, le_of_suc-le-suc, lt_of_not-le, lt_of_le_of_lt, not-le_of_lt, zero-mul, mul-one, mul_comm, mul_assoc, add-mul, mul-le-mul_left, mul-lt-mul_of_pos_right, mul-pos}
 use native.Mathlib.Omega.{arith}
 use mathlib.Core.Bool.{Bool, true, false, ◌&&◌}
 use lib.Dec.{T, ltb, leb, eqb, ltb→lt, leb→le}
@@ -14,9 +14,9 @@ use lib.Ieee.Exact.{HasValue, round_exact}
 use lib.Ieee.Order.{le_of_values}
 use lib.Ieee.Scale.{finite}
 use lib.Ieee.Positive.{den, den_pos}
-use Rattle.float.proofs.Order.{plus, minus, number, LE→le, le_le}
-use Rattle.float.proofs.Rounding.{Rounds, rounds_mono, add_rounds, zero64}
-use Rattle.float.proofs.Monotone.{natural, no_minus, add_natural, top}
+use Rattle.float.proofs.Order.{plus, minus, LE→le, le_le}
+use Rattle.float.proofs.Rounding.{rounds_mono, add_rounds, zero64}
+use Rattle.float.proofs.Monotone.{natural, no_minus, add_natural}
 
 digits : (f : Format) (s : Bool) (m : ℕ) (e : ℤ) → T (fits f (fin s (suc m) e)) → (suc m < 2 ^ prec f) × (down e ≤ 2 ^ low f) × (suc m * up e < 2 ^ suc (emax f) * down e)
 unfolding fits

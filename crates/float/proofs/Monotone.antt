@@ -1,19 +1,19 @@
 -- Sums, differences and products keep the order. Assumes nothing.
-use mathlib.Core.Path.{◌≡◌, refl, sym, ap, ◌∙◌, subst}
-use mathlib.Core.Logic.{◌⊎◌, inl, inr}
+use mathlib.Core.Path.{◌≡◌, refl, sym, ◌∙◌, subst}
+use mathlib.Core.Logic.{inl, inr}
 use Prim.Native.Nat.{ℕ, zero, suc, ◌+◌, ◌-◌, ◌*◌, ◌^◌, ◌≤◌, ◌<◌, zero-le}
-use native.Mathlib.Nat.{le_refl, le_of_eq, le_trans, zero-mul, mul-zero, mul-one, mul_comm, mul_assoc, mul_left_comm, mul_right_comm, add-mul, mul-add, mul-le-mul_right, mul-pos, mul-le-mul, mul-mul-mul_comm, eq_of_mul-eq-mul_right}
+use native.Mathlib.Nat.{le_refl, le_of_eq, le_trans, zero-mul, mul-zero, mul-one, mul_comm, mul_assoc, mul_left_comm, add-mul, mul-le-mul_right, mul-pos, mul-le-mul, mul-mul-mul_comm, eq_of_mul-eq-mul_right}
 use native.Mathlib.Omega.{arith}
 use mathlib.Core.Bool.{Bool, true, false, not, ◌&&◌, cond}
 use lib.Dec.{T, ltb, eqb}
 use lib.Pow.{pow_pos}
-use lib.IntN.{ℤ, pos}
-use lib.Ieee.{Float, nan, inf, fin, Format, binary64, of_bits, prec, low, emax, up, down, odd, units, round, neg, add, sub, mul, le}
+use lib.IntN.{ℤ}
+use lib.Ieee.{Float, nan, inf, fin, Format, binary64, of_bits, prec, low, emax, up, odd, units, round, neg, add, sub, mul, le}
 use lib.Ieee.Fits.{round_is, up_pos, eq→eqb, and_l, and_r}
 use lib.Ieee.Scale.{finite}
 use lib.Ieee.Positive.{den, den_pos}
-use Rattle.float.proofs.Order.{P, N, plus, minus, rank, number, cross≤, Le, le→LE, LE→le, le_le, le_self, le_left, le_right}
-use Rattle.float.proofs.Rounding.{Rounds, rounds_mono, add_rounds, mul_rounds, neg_le, zero64, round_zero}
+use Rattle.float.proofs.Order.{plus, minus, number, cross≤, Le, le→LE, le_le, le_self, le_left, le_right}
+use Rattle.float.proofs.Rounding.{Rounds, rounds_mono, add_rounds, mul_rounds, zero64, round_zero}
 
 pub cross : (x y : Float) → T (finite x) → T (finite y) → Le x y → cross≤ x y
 cross nan y p q h = absurd p

@@ -2,18 +2,18 @@
 use mathlib.Core.Path.{◌≡◌, refl, sym, ap, ◌∙◌, subst}
 use mathlib.Core.Logic.{◌⊎◌, inl, inr}
 use Prim.Native.Nat.{ℕ, zero, suc, ◌+◌, ◌-◌, ◌*◌, ◌^◌, ◌≤◌, ◌<◌, zero-le}
-use native.Mathlib.Nat.{le_refl, le_of_eq, le_trans, zero-mul, mul-zero, mul_comm, mul_assoc, mul_left_comm, mul_right_comm, mul-sub, add-mul, mul-add, mul-le-mul_right, mul-pos, mul-le-mul, eq_of_mul-eq-mul_right}
+use native.Mathlib.Nat.{le_refl, le_of_eq, le_trans, zero-mul, mul-zero, mul_comm, mul-sub, mul-le-mul_right, eq_of_mul-eq-mul_right}
 use native.Mathlib.Omega.{arith}
-use mathlib.Core.Bool.{Bool, true, false, not, ◌&&◌, ◌||◌, beq, cond}
+use mathlib.Core.Bool.{Bool, true, false, not, cond}
 use lib.Dec.{T, ltb, ltb→lt, nltb→le}
-use lib.IntN.{ℤ, pos}
+use lib.IntN.{pos}
 use lib.Pow.{pow_pos}
-use lib.Ieee.{Float, nan, inf, fin, Format, binary32, binary64, prec, low, emax, unlike, up, down, odd, units, round, neg, sum, add, sub, mul, le}
-use lib.Ieee.Fits.{round_is, down_pos}
+use lib.Ieee.{Float, nan, inf, fin, Format, binary32, binary64, prec, low, emax, unlike, up, down, odd, units, round, neg, sum, add, mul, le}
+use lib.Ieee.Fits.{round_is}
 use lib.Ieee.Order.{round_mono}
 use lib.Ieee.Scale.{round_same, finite}
-use lib.Ieee.Positive.{den, den_pos}
-use Rattle.float.proofs.Order.{P, N, plus, minus, rank, number, cross≤, Le, le→LE, LE→le, le_le, le_self, le_left, le_right}
+use lib.Ieee.Positive.{den}
+use Rattle.float.proofs.Order.{P, N, plus, minus, number, Le, le→LE, LE→le, le_le, le_left, le_right}
 
 -- ---- `neg` turns the order round
 pub neg_number : (x : Float) → T (number x) → T (number (neg x))

@@ -1,7 +1,7 @@
 -- Values from 0 to 1. A share is such a value with its sign clear (so not -0, whose inverse is negative): products, differences from 1 and quotients
 -- by a number from 1 up are shares again, and a product with one is no larger. Assumes nothing.
 use mathlib.Core.Path.{◌≡◌, refl, sym, ap, ◌∙◌, subst}
-use mathlib.Core.Logic.{◌⊎◌, inl, inr}
+use mathlib.Core.Logic.{inl, inr}
 use Prim.Native.Nat.{ℕ, zero, suc, ◌+◌, ◌-◌, ◌*◌, ◌^◌, ◌≤◌, ◌<◌, zero-le}
 use native.Mathlib.Nat.{le_refl, le_of_eq, le_trans, zero-mul, mul-zero, mul-one, one-mul, mul_assoc, mul_right_comm, add-mul, mul-le-mul_left, mul-pos, lt_of_lt_of_le, not-le_of_lt}
 use native.Mathlib.Omega.{arith}

@@ -1,8 +1,7 @@
 -- Sums left to right of values that are at least 0: the sum from 0.0 is at most the same sum from any s >= 0. Assumes nothing.
-use mathlib.Core.Path.{◌≡◌, sym, subst}
 use mathlib.Core.List.{List, [], ◌∷◌}
 use lib.Dec.{T}
-use lib.Ieee.{Float, binary64, add, le}
+use lib.Ieee.{Float, binary64, le}
 use Rattle.float.specs.Numbers.{◌⊕◌}
 use Rattle.float.specs.Sum.{total}
 use Rattle.float.proofs.Order.{le_le, le_self, le_right}

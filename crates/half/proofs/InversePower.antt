@@ -1,6 +1,6 @@
 -- 2 ^ -n is the value whose exponent's field is 1023 - n and whose digits are 0, tested at each n below 1023. Assumes nothing.
-use Rattle.std.proofs.Common.{◌≡◌, ℕ, ◌-◌, ◌*◌, ◌^◌, ◌<◌, Bool, false, not, T, refl}
-use lib.Ieee.{Float, binary64, round, of_bits, nan_bits}
+use Rattle.std.proofs.Common.{◌≡◌, ℕ, ◌-◌, ◌*◌, ◌<◌, Bool, not, T, refl}
+use lib.Ieee.{binary64, round, of_bits, nan_bits}
 use Rattle.half.specs.Power.{inverse_power}
 use Rattle.float.proofs.Table.{both, both_left, both_right}
 use Rattle.float.proofs.Same.{same, same→eq, all, all_at}

@@ -2,7 +2,6 @@
 use Rattle.std.proofs.Common.{◌≡◌, ℕ, zero, suc, ◌+◌, ◌-◌, ◌*◌, ◌/◌, ◌^◌, ◌<◌, ◌≤◌, Bool, true, false, T, eqb, ltb, length, ℤ, pos, sym, refl, subst, lt_of_lt_of_le, le_of_suc-le-suc, le_of_lt, le_antisymm, lt_of_not-le, not-le_of_lt, arith, eqb→eq, ltb→lt}
 use native.Mathlib.Nat.{pow-le-pow_left}
 use lib.Ieee.{Float, nan, inf, fin, up, down, of_bits}
-use lib.Ieee.Exact.{HasValue}
 use Rattle.half.specs.Powers.{powers, power_at, Nearest}
 use Rattle.float.proofs.Table.{both, both_left, both_right, every, at}
 

@@ -1,19 +1,17 @@
 -- `half`, and so a probability, lies from 0 to 1. What is left after the steps is at most the last step, so the series is a share (`Rattle.float.proofs.Share`), and so
 -- are the table's entries, the powers of two and their products. Assumes nothing.
-use Rattle.std.proofs.Common.{◌≡◌, ℕ, zero, suc, ◌+◌, ◌*◌, ◌/◌, ◌^◌, ◌<◌, min, Bool, true, false, cond, not, ◌&&◌, T, sym, refl, subst, arith, lit<, pow_pos}
-use lib.Ieee.{Float, nan, binary64, neg, add, sub, mul, div, le, lt, of_bits, fits}
-use lib.Ieee.Fits.{and_l, and_r}
+use Rattle.std.proofs.Common.{◌≡◌, ℕ, zero, suc, ◌+◌, ◌*◌, ◌/◌, ◌^◌, ◌<◌, min, Bool, true, false, cond, not, T, sym, refl, subst, arith, lit<, pow_pos}
+use lib.Ieee.{Float, nan, binary64, neg, sub, mul, div, le, lt, of_bits, fits}
 use lib.Ieee.Scale.{finite}
 use lib.Ieee.Positive.{positive}
 use Rattle.float.specs.Numbers.{f64, ◌⊕◌, ◌⊖◌, ◌⊗◌, ◌⊘◌, f0, f½, f1, f2, f5}
 use Rattle.float.proofs.Table.{both, both_left, both_right, every, at}
-use Rattle.float.proofs.Order.{number, le_le, le_left, le_right, lt_le_lt, lt_le, not_le}
+use Rattle.float.proofs.Order.{number, le_le, le_left, le_right, lt_le, not_le}
 use Rattle.float.proofs.Rounding.{zero64, neg_number}
-use Rattle.float.proofs.Monotone.{natural, sub_mono, sub_number, zero_is, finite_number, between_limits}
+use Rattle.float.proofs.Monotone.{natural, sub_mono, sub_number, zero_is, finite_number}
 use Rattle.float.proofs.Exact.{grows}
 use Rattle.float.proofs.Division.{div_number}
 use Rattle.float.proofs.Share.{one64, plain, plain_natural, Share, UpTo, Small, share_small, round_share, mul_small, mul_share, less_share, div_plain, div_small, one_is, mul_up, one_by, neg_natural, inverse_from_one}
-use Rattle.limits.specs.Values.{ok_db, ok_slope, f200, eighth, f16}
 use Rattle.half.specs.Powers.{powers, power_at}
 use Rattle.half.specs.Power.{f512, f1022, ln2, f3, f4, descent, whole_steps, part_steps, level, series_in, series, inverse_power, joined, half}
 use Rattle.half.specs.Logistic.{log2e, f9, f40, exp, logistic, decode_probability, FromZeroToOne}

@@ -55,6 +55,6 @@ module _ {A : Type 0} where
     pub unstored : (a : A) → 32 ≤ i → l ≡ set l i a
     unstored a h = sym (set_out l i a (subst (λ (n : ℕ). n ≤ i) (sym long) h))
 
--- how many entries an array of structs has is said of a list of their parts; for `search (needs, of_parts)`
+-- how many entries an array of structs has is said of a list of their parts; for `search (rules, of_parts)`
 pub of_parts : (X Y : Type 0) (f : X → Y) (l : List X) (n : ℕ) → length (map f l) ≡ n → length l ≡ n
 of_parts X Y f l n e = sym (length-map l f) ∙ e

@@ -22,7 +22,7 @@ abbrev pub best_place : Best → ℕ
 best_place NoneYet = 0
 best_place (Found i x) = i.0
 
--- ---- what is found (`lowest-of-greatest` of proofs/LowestFound.antt, for values that are numbers; `decides-lowest` of the crate finite: in every call they are)
+-- ---- what is found (`lowest_of_greatest` of proofs/LowestFound.antt, for values that are numbers; `decides_lowest` of the crate finite: in every call they are)
 module _ (allowed : ℕ → Bool) (worth : ℕ → Float) where
   -- of the m lowest places p is the lowest of greatest value, x: it is allowed, no allowed place has a greater value, and each allowed one under it has less
   pub record Lowest (m p : ℕ) (x : Float) : Type 0 where

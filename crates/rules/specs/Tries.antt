@@ -14,7 +14,7 @@ use Rattle.account.specs.declared.types.State.{State}
 use Rattle.account.specs.State.{account, time_of, wait_of, choice, with_time, with_wait, with_trying, with_place}
 use Rattle.account.specs.Price.{value, lossless_price, wait_seconds}
 use Rattle.rules.specs.Lists.{how_many}
-use Rattle.rules.specs.Echo.{over, usable}
+use Rattle.rules.specs.Echo.{usable}
 use Rattle.rules.specs.Lowest.{Best, NoneYet, Found, greatest}
 use Rattle.rules.specs.Booking.{Frame, at, sent}
 

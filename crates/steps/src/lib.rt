@@ -3,6 +3,7 @@
 // An inner crate: its functions ask of their callers that the slices are as long as a table's and a state's arrays (`Lent`, `Sized`), since only a caller that holds the
 // arrays can see to that.
 #![tactic(auto)]
+
 pub mod booking;
 pub mod calls;
 mod decide;

@@ -2,7 +2,7 @@
 use Rattle.std.proofs.Common.{◌≡◌, sym, ap, ◌∙◌, refl}
 use Rattle.std.specs.Float.{binary64}
 use lib.Ieee.{Float, nan, to_bits}
-use Rattle.float.proofs.Nan.{eq_nan, eq_number}
+use Rattle.float.proofs.Nan.{eq_nan}
 use Rattle.float.proofs.bits.bits_of.Goals as goal
 
 nan_bits : 0x7ff8_0000_0000_0000 ≡ to_bits binary64 nan

@@ -1,5 +1,5 @@
 -- Each arm is what `cond` picks where the test is as the arm found it.
-use Rattle.std.proofs.Common.{refl, rules}
+use Rattle.std.proofs.Common.{refl}
 use Rattle.half.specs.Logistic.{probability}
 use Rattle.half.proofs.logistic.decode_probability.Goals as goal
 

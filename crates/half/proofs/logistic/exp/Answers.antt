@@ -1,6 +1,4 @@
--- `half::logistic::exp` meets its contract.
-use Rattle.std.proofs.Common.{◌≡◌, Bool, true, false, cond, sym, ap, ◌∙◌, rules}
-use lib.Ieee.{Float, binary64, mul, div, neg}
+-- Each arm is the definition where the test is as the arm found it.
 use Rattle.half.specs.Logistic.{exp}
 use Rattle.half.proofs.logistic.exp.Goals as goal
 

@@ -1,5 +1,4 @@
 -- Each arm is the definition where the test is as the arm found it.
-use Rattle.std.proofs.Common.{rules}
 use Rattle.half.specs.Logistic.{decode_probability}
 use Rattle.half.proofs.logistic.logistic.Goals as goal
 

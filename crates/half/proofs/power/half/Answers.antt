@@ -1,11 +1,12 @@
 -- Each arm is what `cond` picks where the test is as the arm found it.
-use Rattle.std.proofs.Common.{◌≡◌, ℕ, Bool, cond, sym, ap, ◌∙◌, rules}
+use Rattle.std.proofs.Common.{◌≡◌, ℕ, Bool, cond, sym, ap, ◌∙◌}
 use lib.Ieee.{Float, binary64, mul}
 use Rattle.half.specs.Powers.{power_at}
 use Rattle.float.specs.Numbers.{f0}
 use Rattle.half.specs.Power.{whole_steps, part_steps, series, inverse_power, joined, half}
 use Rattle.half.proofs.power.half.Goals as goal
 
+-- what `cond` picks, by the test on t
 picked : (t : Float) (b : Bool) → Float
 picked t b = cond b f0 (joined (part_steps t) (whole_steps t).1)
 
@@ -20,9 +21,8 @@ returns-then-t c = sym (ap (picked c.args.t) c.if-t.true)
 pub returns : goal.returns
 unfolding half picked
 returns c =
-    let s = c in
-    let d = s.take_steps-s in
-    let t = s.args.t in
-    together t d.result.rest d.result.whole d.result.part c.half_power.result s.series_at-q.result c.inverse_power.result
-    d.ensures.0 d.ensures.1 d.ensures.2 c.half_power.ensures s.series_at-q.ensures c.inverse_power.ensures
-    ∙ sym (ap (picked t) s.if-t.false)
+    let d = c.take_steps-s in
+    let t = c.args.t in
+    together t d.result.rest d.result.whole d.result.part c.half_power.result c.series_at-q.result c.inverse_power.result
+    d.ensures.0 d.ensures.1 d.ensures.2 c.half_power.ensures c.series_at-q.ensures c.inverse_power.ensures
+    ∙ sym (ap (picked t) c.if-t.false)

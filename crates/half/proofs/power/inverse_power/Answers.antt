@@ -1,5 +1,5 @@
--- `half::power::inverse_power` meets its contract, by `proofs/Inverse.antt`.
-use Rattle.std.proofs.Common.{◌≡◌, ℕ, sym, refl, ap, ◌∙◌, arith, rules}
+-- By `proofs/InversePower.antt`.
+use Rattle.std.proofs.Common.{◌≡◌, sym, ap, ◌∙◌, arith}
 use lib.Ieee.{nan_bits}
 use Rattle.half.specs.Power.{inverse_power}
 use Rattle.half.proofs.InversePower.{no_nan, is_power, last}

@@ -1,5 +1,5 @@
--- `half::power::take_steps` meets its contract, by `proofs/Taken.antt`.
-use Rattle.std.proofs.Common.{◌≡◌, ℕ, Bool, true, false, not, T, sym, ap, subst, arith, lit<, rules}
+-- By `proofs/Taken.antt`.
+use Rattle.std.proofs.Common.{◌≡◌, ℕ, Bool, true, false, not, T, sym, ap, subst, arith, lit<}
 use lib.Ieee.{Float, binary64, fits, le}
 use Rattle.half.specs.Power.{f1022}
 use Rattle.half.proofs.Range.{last_step}
@@ -7,6 +7,7 @@ use Rattle.half.proofs.Places.{Places}
 use Rattle.half.proofs.Taken.{as_fraction, in_range, counted, taken, small, none}
 use Rattle.half.proofs.power.take_steps.Goals as goal
 
+-- t, where the tests are as the way to the truncation found them
 fraction : (t : Float) → fits binary64 t ≡ true → le last_step t ≡ true → le f1022 t ≡ false → Places 8 18 t
 fraction t f h k = as_fraction t (subst T (sym f) tt) (subst T (sym h) tt) (subst (λ (b : Bool). T (not b)) (sym k) tt)
 

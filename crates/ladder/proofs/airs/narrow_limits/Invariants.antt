@@ -1,12 +1,7 @@
-use mathlib.Core.Path.{◌≡◌, refl}
+use mathlib.Core.Path.{◌≡◌}
 use mathlib.Core.List.{◌++◌}
-use Prim.Native.Nat.{◌-◌, ◌<◌, ◌≤◌}
-use native.Mathlib.Omega.{arith}
-use lib.ListN.{take, drop, replicate}
-use borrow.Author.Rules.{rules}
-use Rattle.limits.specs.declared.reading.Reading.TheVariants.{Missing}
-use Rattle.ladder.specs.Airs.{narrow_limits}
-use Rattle.ladder.proofs.Arrays.{copied}
+use Prim.Native.Nat.{◌-◌, ◌≤◌}
+use lib.ListN.{take, drop}
 use Rattle.ladder.proofs.airs.narrow_limits.Given as goal
 
 abbrev pub invariant-loop-i : goal.invariant-loop-i

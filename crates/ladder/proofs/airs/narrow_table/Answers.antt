@@ -2,7 +2,6 @@
 use mathlib.Core.Path.{ap, ◌∙◌}
 use mathlib.Core.List.{List}
 use lib.Ieee.{of_bits, neg}
-use borrow.Author.Rules.{rules}
 use Rattle.limits.specs.declared.reading.Reading.{Reading}
 use Rattle.ladder.specs.Tables.{columns, tabled}
 use Rattle.ladder.specs.Airs.{narrow_thresholds, narrow_payloads, narrow_capacities, narrow_times}

@@ -1,14 +1,10 @@
 -- What the rest of the column says is what the whole says.
 use Rattle.std.proofs.Common.{ap}
 use Rattle.std.specs.Prelude.{not}
-use mathlib.Core.Path.{◌≡◌, refl, ◌∙◌}
-use Prim.Native.Nat.{◌-◌}
+use mathlib.Core.Path.{refl, ◌∙◌}
 use native.Mathlib.Omega.{arith}
-use lib.ListN.{length, drop}
 use lib.Ieee.{nan}
-use borrow.Author.Rules.{rules}
 use Rattle.limits.specs.Values.{ok_db}
-use Rattle.ladder.specs.Lists.{every}
 use Rattle.ladder.proofs.Every.{every_stops, every_goes_on, every_ends}
 use Rattle.ladder.proofs.columns.all_db.Goals as goal
 
@@ -17,16 +13,14 @@ loop-i-init c = refl
 
 pub returns-then-not-ok_db : goal.returns-then-not-ok_db
 returns-then-not-ok_db c =
-    let s = c in
-    every_stops ok_db s.args.column.now s.loop-i.i nan c.ok_db.result (omega arith) c.ok_db.ensures (ap not c.if-not-ok_db.true) ∙ s.loop-i.invariant
+    every_stops ok_db c.args.column.now c.loop-i.i nan c.ok_db.result (omega arith) c.ok_db.ensures (ap not c.if-not-ok_db.true) ∙ c.loop-i.invariant
 
 pub loop-i-smaller : goal.loop-i-smaller
 loop-i-smaller c = omega arith
 
 pub loop-i-preserved : goal.loop-i-preserved
 loop-i-preserved c =
-    let s = c in
-    every_goes_on ok_db s.args.column.now s.loop-i.i nan c.ok_db.result (omega arith) c.ok_db.ensures (ap not c.if-not-ok_db.false) ∙ s.loop-i.invariant
+    every_goes_on ok_db c.args.column.now c.loop-i.i nan c.ok_db.result (omega arith) c.ok_db.ensures (ap not c.if-not-ok_db.false) ∙ c.loop-i.invariant
 
 pub returns : goal.returns
-returns c = let s = c in every_ends ok_db s.args.column.now s.loop-i.i (omega arith) ∙ s.loop-i.invariant
+returns c = every_ends ok_db c.args.column.now c.loop-i.i (omega arith) ∙ c.loop-i.invariant

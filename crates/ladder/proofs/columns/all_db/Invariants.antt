@@ -1,12 +1,8 @@
-use mathlib.Core.Path.{◌≡◌, refl, ◌∙◌}
+use mathlib.Core.Path.{◌≡◌}
 use Prim.Native.Nat.{◌-◌}
-use native.Mathlib.Omega.{arith}
 use lib.ListN.{length, drop}
-use lib.Ieee.{nan}
-use borrow.Author.Rules.{rules}
 use Rattle.limits.specs.Values.{ok_db}
 use Rattle.ladder.specs.Lists.{every}
-use Rattle.ladder.proofs.Every.{every_stops, every_goes_on, every_ends}
 use Rattle.ladder.proofs.columns.all_db.Given as goal
 
 abbrev pub invariant-loop-i : goal.invariant-loop-i

@@ -2,7 +2,7 @@
 use mathlib.Core.Path.{◌≡◌, refl, sym, ap, ◌∙◌}
 use mathlib.Core.Bool.{Bool, true, false, not}
 use mathlib.Core.List.{List}
-use Prim.Native.Nat.{ℕ, ◌+◌, ◌-◌, ◌<◌, ◌≤◌}
+use Prim.Native.Nat.{ℕ, ◌+◌, ◌<◌, ◌≤◌}
 use native.Mathlib.Omega.{arith}
 use lib.ListN.{length, get_or, take, drop}
 use lib.Seq.{get_or-take, length-take-le}
@@ -14,6 +14,7 @@ use Rattle.limits.specs.Readings.{ok_limit}
 use Rattle.ladder.proofs.Every.{every_stops, every_goes_on, every_ends}
 use Rattle.ladder.proofs.columns.all_limits.Goals as goal
 
+-- the walk along the first n entries of an array l
 module _ (l : List Reading) (n i : ℕ) (long : length l ≡ 32) (few : n ≤ 32) where
   size : length (take n l) ≡ n
   size = length-take-le n l (omega arith)
@@ -36,21 +37,18 @@ loop-i-init c = refl
 
 pub returns-then-not-ok_limit : goal.returns-then-not-ok_limit
 returns-then-not-ok_limit c =
-    let s = c in
-    let a = s.args in
-    stops a.column a.limited s.loop-i.i (search rules) (search rules) c.ok_limit.result (search rules) c.ok_limit.ensures (ap not c.if-not-ok_limit.true) ∙ s.loop-i.invariant
+    let a = c.args in
+    stops a.column a.limited c.loop-i.i (search rules) (search rules) c.ok_limit.result (search rules) c.ok_limit.ensures (ap not c.if-not-ok_limit.true) ∙ c.loop-i.invariant
 
 pub loop-i-smaller : goal.loop-i-smaller
 loop-i-smaller c = omega arith
 
 pub loop-i-preserved : goal.loop-i-preserved
 loop-i-preserved c =
-    let s = c in
-    let a = s.args in
-    goes_on a.column a.limited s.loop-i.i (search rules) (search rules) c.ok_limit.result (search rules) c.ok_limit.ensures (ap not c.if-not-ok_limit.false) ∙ s.loop-i.invariant
+    let a = c.args in
+    goes_on a.column a.limited c.loop-i.i (search rules) (search rules) c.ok_limit.result (search rules) c.ok_limit.ensures (ap not c.if-not-ok_limit.false) ∙ c.loop-i.invariant
 
 pub returns : goal.returns
 returns c =
-    let s = c in
-    let a = s.args in
-    ends a.column a.limited s.loop-i.i (search rules) (search rules) (search rules) ∙ s.loop-i.invariant
+    let a = c.args in
+    ends a.column a.limited c.loop-i.i (search rules) (search rules) (search rules) ∙ c.loop-i.invariant

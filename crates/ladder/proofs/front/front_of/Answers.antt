@@ -1,12 +1,11 @@
 -- The array holds the rungs selected so far.
-use Prim.Native.Nat.{◌-◌, ◌≤◌}
 use Rattle.std.proofs.Common.{ap}
 use Rattle.std.specs.Prelude.{not}
 use native.Mathlib.Omega.{arith}
 use lib.ListN.{length}
 use borrow.Author.Rules.{rules}
 use Rattle.ladder.specs.Front.{beaten, front_of}
-use Rattle.ladder.proofs.Filling.{Filling, filling_starts, filling_takes, filling_leaves, filling_ends}
+use Rattle.ladder.proofs.Filling.{filling_starts, filling_takes, filling_leaves, filling_ends}
 use Rattle.ladder.proofs.front.front_of.Goals as goal
 use Rattle.ladder.proofs.front.front_of.Goals.{then-not-is_beaten, else-not-is_beaten}
 
@@ -30,14 +29,13 @@ loop-m-preserved c =
     let said = c.is_beaten.ensures a.payload.now a.frame_s.now c.worths_of-worths.ensures in (
       omega arith,
       elim c.if-not-is_beaten.branch [
-      then-not-is_beaten w ↦ rw (w.rungs-is, w.places-is) (filling_takes out n l.m l.rungs l.places l.invariant.1 answer (omega arith) said (omega arith) (ap not w.if-not-is_beaten.true))
-      | else-not-is_beaten w ↦ rw (w.rungs-is, w.places-is) (filling_leaves out n l.m l.rungs l.places l.invariant.1 answer (omega arith) said (ap not w.if-not-is_beaten.false))
+        | then-not-is_beaten w ↦ rw (w.rungs-is, w.places-is) (filling_takes out n l.m l.rungs l.places l.invariant.1 answer (omega arith) said (omega arith) (ap not w.if-not-is_beaten.true))
+        | else-not-is_beaten w ↦ rw (w.rungs-is, w.places-is) (filling_leaves out n l.m l.rungs l.places l.invariant.1 answer (omega arith) said (ap not w.if-not-is_beaten.false))
       ],
     )
 
 pub returns : goal.returns
 unfolding front_of
 returns c =
-    let s = c in
-    let a = s.args in
-    filling_ends (beaten a.thresholds.now a.payload.now a.frame_s.now) (length a.thresholds.now) s.loop-m.m s.loop-m.rungs s.loop-m.places s.loop-m.invariant.1 (omega arith)
+    let a = c.args in
+    filling_ends (beaten a.thresholds.now a.payload.now a.frame_s.now) (length a.thresholds.now) c.loop-m.m c.loop-m.rungs c.loop-m.places c.loop-m.invariant.1 (omega arith)

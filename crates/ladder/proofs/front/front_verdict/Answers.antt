@@ -1,8 +1,6 @@
 -- The tests that led to an answer decide the definition's chain.
 use mathlib.Core.Path.{refl}
-use borrow.Author.Rules.{rules}
 use Rattle.ladder.specs.Front.{front_verdict}
-use Rattle.ladder.proofs.Tests.{denied, granted}
 use Rattle.std.proofs.Common.{sym, ◌∙◌}
 use Rattle.ladder.proofs.front.front_verdict.Goals as goal
 

@@ -1,14 +1,9 @@
 -- Whether one from `other` on beats the rung is whether one of them all does, of whichever columns the worths are.
-use mathlib.Core.Path.{◌≡◌, refl, ◌∙◌}
-use mathlib.Core.List.{List}
-use Prim.Native.Nat.{ℕ, ◌-◌}
+use mathlib.Core.Path.{refl, ◌∙◌}
 use native.Mathlib.Nat.{sub-zero}
 use native.Mathlib.Omega.{arith}
-use lib.Ieee.{Float}
 use lib.ListN.{length}
-use borrow.Author.Rules.{rules}
-use Rattle.ladder.specs.Lists.{some_from}
-use Rattle.ladder.specs.Front.{worths_of, beats, beaten}
+use Rattle.ladder.specs.Front.{beats, beaten}
 use Rattle.ladder.proofs.Ranges.{some_here, some_later, some_nowhere}
 use Rattle.ladder.proofs.front.is_beaten.Goals as goal
 
@@ -18,23 +13,20 @@ loop-other-init c payloads times e = rw sub-zero refl
 
 pub returns-then-beats : goal.returns-then-beats
 returns-then-beats c payloads times e =
-    let s = c in
-    let a = s.args in
+    let a = c.args in
     let tests = beats a.thresholds.now payloads times a.m in
-    some_here tests (length a.thresholds.now) s.loop-other.other c.beats.result (omega arith) (c.beats.ensures payloads times e) c.if-beats.true ∙ s.loop-other.invariant payloads times e
+    some_here tests (length a.thresholds.now) c.loop-other.other c.beats.result (omega arith) (c.beats.ensures payloads times e) c.if-beats.true ∙ c.loop-other.invariant payloads times e
 
 pub loop-other-smaller : goal.loop-other-smaller
 loop-other-smaller c = omega arith
 
 pub loop-other-preserved : goal.loop-other-preserved
 loop-other-preserved c payloads times e =
-    let s = c in
-    let a = s.args in
+    let a = c.args in
     let tests = beats a.thresholds.now payloads times a.m in
-    some_later tests (length a.thresholds.now) s.loop-other.other c.beats.result (omega arith) (c.beats.ensures payloads times e) c.if-beats.false ∙ s.loop-other.invariant payloads times e
+    some_later tests (length a.thresholds.now) c.loop-other.other c.beats.result (omega arith) (c.beats.ensures payloads times e) c.if-beats.false ∙ c.loop-other.invariant payloads times e
 
 pub returns : goal.returns
 returns c payloads times e =
-    let s = c in
-    let a = s.args in
-    some_nowhere (beats a.thresholds.now payloads times a.m) (length a.thresholds.now) s.loop-other.other (omega arith) ∙ s.loop-other.invariant payloads times e
+    let a = c.args in
+    some_nowhere (beats a.thresholds.now payloads times a.m) (length a.thresholds.now) c.loop-other.other (omega arith) ∙ c.loop-other.invariant payloads times e

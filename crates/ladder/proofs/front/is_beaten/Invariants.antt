@@ -1,14 +1,10 @@
-use mathlib.Core.Path.{◌≡◌, refl, ◌∙◌}
+use mathlib.Core.Path.{◌≡◌}
 use mathlib.Core.List.{List}
 use Prim.Native.Nat.{ℕ, ◌-◌}
-use native.Mathlib.Nat.{sub-zero}
-use native.Mathlib.Omega.{arith}
 use lib.Ieee.{Float}
 use lib.ListN.{length}
-use borrow.Author.Rules.{rules}
 use Rattle.ladder.specs.Lists.{some_from}
 use Rattle.ladder.specs.Front.{worths_of, beats, beaten}
-use Rattle.ladder.proofs.Ranges.{some_here, some_later, some_nowhere}
 use Rattle.ladder.proofs.front.is_beaten.Given as goal
 
 abbrev pub invariant-loop-other : goal.invariant-loop-other

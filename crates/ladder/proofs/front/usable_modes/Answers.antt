@@ -1,6 +1,5 @@
 -- The constants lent are the wide air's columns, by computation.
 use lib.Ieee.{of_bits, neg}
-use borrow.Author.Rules.{rules}
 use Rattle.ladder.proofs.front.usable_modes.Goals as goal
 
 pub returns : goal.returns

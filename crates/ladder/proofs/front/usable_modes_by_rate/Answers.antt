@@ -1,6 +1,5 @@
 -- The verdict picks the definition's case, and columns that it accepts have one length of at most 32.
-use mathlib.Core.Path.{refl, sym, ◌∙◌}
-use borrow.Author.Rules.{rules}
+use mathlib.Core.Path.{refl, sym}
 use Rattle.ladder.specs.Front.{usable_of}
 use Rattle.ladder.proofs.Accepted.{front_columns}
 use Rattle.ladder.proofs.front.usable_modes_by_rate.Goals as goal

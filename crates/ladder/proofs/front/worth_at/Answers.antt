@@ -1,12 +1,9 @@
--- Past the last rung the defaults are worth 0.0, and before it the definition's own default is as good as the
-use mathlib.Core.Path.{refl, ap, ◌∙◌}
+-- Past the last rung the defaults are worth 0.0, and before it the definition's own default is as good as the read's.
+use mathlib.Core.Path.{refl}
 use native.Mathlib.Omega.{arith}
-use lib.Ieee.{Float, nan, of_bits, of_int, div}
-use lib.ListN.{get_or, get_or-eq_default}
-use borrow.Author.Rules.{rules}
+use lib.Ieee.{of_bits, of_int, div}
+use lib.ListN.{get_or-eq_default}
 use Rattle.float.specs.Numbers.{f1}
-use Rattle.ladder.specs.Front.{worth}
-use Rattle.ladder.proofs.Arrays.{any_default}
 use Rattle.ladder.proofs.front.worth_at.Goals as goal
 
 pub returns-then-m-payload : goal.returns-then-m-payload

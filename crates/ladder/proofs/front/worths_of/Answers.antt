@@ -1,12 +1,10 @@
 -- Each turn stores its rung's worth.
 use mathlib.Core.Path.{refl}
-use Prim.Native.Nat.{◌-◌}
 use native.Mathlib.Omega.{arith}
 use lib.ListN.{replicate}
-use borrow.Author.Rules.{rules}
 use Rattle.float.specs.Numbers.{f0}
 use Rattle.ladder.specs.Front.{worth_at, worths_of}
-use Rattle.ladder.proofs.Tabulating.{Tabulating, tabulating_starts, tabulating_stores, tabulating_ends}
+use Rattle.ladder.proofs.Tabulating.{tabulating_starts, tabulating_stores, tabulating_ends}
 use Rattle.ladder.proofs.front.worths_of.Goals as goal
 
 pub loop-m-init : goal.loop-m-init
@@ -19,13 +17,11 @@ loop-m-smaller c = omega arith
 
 pub loop-m-preserved : goal.loop-m-preserved
 loop-m-preserved c =
-    let s = c in
-    let a = s.args in
-    tabulating_stores (worth_at a.payload.now a.frame_s.now) 32 s.loop-m.m s.loop-m.worths s.loop-m.invariant c.worth_at-worth.result (omega arith) c.worth_at-worth.ensures
+    let a = c.args in
+    tabulating_stores (worth_at a.payload.now a.frame_s.now) 32 c.loop-m.m c.loop-m.worths c.loop-m.invariant c.worth_at-worth.result (omega arith) c.worth_at-worth.ensures
 
 pub returns : goal.returns
 unfolding worths_of
 returns c =
-    let s = c in
-    let a = s.args in
-    tabulating_ends (worth_at a.payload.now a.frame_s.now) 32 s.loop-m.m s.loop-m.worths s.loop-m.invariant (omega arith)
+    let a = c.args in
+    tabulating_ends (worth_at a.payload.now a.frame_s.now) 32 c.loop-m.m c.loop-m.worths c.loop-m.invariant (omega arith)

@@ -1,6 +1,5 @@
 -- It has 32 times the row of no rung, and no front.
 use mathlib.Core.Path.{refl}
-use borrow.Author.Rules.{rules}
 use Rattle.ladder.specs.Tables.{blank_table}
 use Rattle.ladder.proofs.table.blank_table.Goals as goal
 

@@ -1,6 +1,5 @@
 -- By what the blank table ensures.
 use mathlib.Core.Path.{refl}
-use borrow.Author.Rules.{rules}
 use Rattle.ladder.proofs.table.refused_table.Goals as goal
 
 pub returns : goal.returns

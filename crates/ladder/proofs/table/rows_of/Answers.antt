@@ -1,12 +1,10 @@
 -- Each turn stores its rung's row.
 use mathlib.Core.Path.{refl}
 use mathlib.Core.List.{[]}
-use Prim.Native.Nat.{◌-◌}
 use native.Mathlib.Omega.{arith}
 use lib.ListN.{replicate}
-use borrow.Author.Rules.{rules}
 use Rattle.ladder.specs.Tables.{columns, row_of, rows_of}
-use Rattle.ladder.proofs.Tabulating.{Tabulating, tabulating_starts, tabulating_stores, tabulating_ends}
+use Rattle.ladder.proofs.Tabulating.{tabulating_starts, tabulating_stores, tabulating_ends}
 use Rattle.ladder.proofs.table.rows_of.Goals as goal
 
 pub loop-r-init : goal.loop-r-init
@@ -20,15 +18,13 @@ loop-r-smaller c = omega arith
 
 pub loop-r-preserved : goal.loop-r-preserved
 loop-r-preserved c =
-    let s = c in
-    let a = s.args in
+    let a = c.args in
     let row = row_of (columns a.thresholds.now [] a.capacities.now a.times.now 0 a.limits a.limited) in
-    tabulating_stores row 32 s.loop-r.r s.loop-r.rows s.loop-r.invariant c.row_at-row.result (omega arith) c.row_at-row.ensures
+    tabulating_stores row 32 c.loop-r.r c.loop-r.rows c.loop-r.invariant c.row_at-row.result (omega arith) c.row_at-row.ensures
 
 pub returns : goal.returns
 unfolding rows_of
 returns c =
-    let s = c in
-    let a = s.args in
+    let a = c.args in
     let row = row_of (columns a.thresholds.now [] a.capacities.now a.times.now 0 a.limits a.limited) in
-    tabulating_ends row 32 s.loop-r.r s.loop-r.rows s.loop-r.invariant (omega arith)
+    tabulating_ends row 32 c.loop-r.r c.loop-r.rows c.loop-r.invariant (omega arith)

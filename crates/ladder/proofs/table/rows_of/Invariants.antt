@@ -1,11 +1,7 @@
-use mathlib.Core.Path.{refl}
 use mathlib.Core.List.{[]}
 use Prim.Native.Nat.{◌-◌}
-use native.Mathlib.Omega.{arith}
-use lib.ListN.{replicate}
-use borrow.Author.Rules.{rules}
-use Rattle.ladder.specs.Tables.{columns, row_of, rows_of}
-use Rattle.ladder.proofs.Tabulating.{Tabulating, tabulating_starts, tabulating_stores, tabulating_ends}
+use Rattle.ladder.specs.Tables.{columns, row_of}
+use Rattle.ladder.proofs.Tabulating.{Tabulating}
 use Rattle.ladder.proofs.table.rows_of.Given as goal
 
 abbrev pub invariant-loop-r : goal.invariant-loop-r

@@ -1,5 +1,5 @@
--- Each test that passes says what it tells of the columns; an answer is then the law of its refusal, or that of a table that is accepted.
-use Rattle.std.proofs.Common.{◌≡◌, Bool, true, false, ℕ, sym, ap, ◌∙◌, length, arith}
+-- After each test that passes, one law says what it tells of the columns; an answer is then the law of its refusal, or that of a table that is accepted.
+use Rattle.std.proofs.Common.{◌≡◌, true, sym, ap, ◌∙◌, length, arith}
 use borrow.Author.Tests.{le-leb, lt-leb}
 use Rattle.ladder.specs.Types.{Front}
 use Rattle.ladder.specs.Tables.{columns, ok_sizes, same_sizes, ok_values, ok_floors, front_of_columns, rows_of, table_of}

@@ -1,6 +1,5 @@
 -- By what the call ensures.
 use Rattle.rate.specs.bridges.Frames.{begin_checks}
-use borrow.Author.Rules.{rules}
 use Rattle.rate.proofs.frames.begin_checks.Goals as goal
 
 pub returns : goal.returns

@@ -1,5 +1,4 @@
 -- A tally at the smoothed core.
-use borrow.Author.Rules.{rules}
 use mathlib.Core.Path.{refl}
 use Rattle.rate.specs.bridges.Frames.{smoothed, begin_pass}
 use Rattle.rate.proofs.frames.begin_pass.Goals as goal

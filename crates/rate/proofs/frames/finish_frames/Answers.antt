@@ -1,7 +1,6 @@
 -- By the two cases of the verdict, and whether there is a frame.
 use borrow.Author.Tests.{eq-eqb, ne_eqb}
 use Rattle.rate.specs.bridges.Frames.{accept_frames, finish_frames}
-use borrow.Author.Rules.{rules}
 use Rattle.rate.proofs.frames.finish_frames.Goals as goal
 
 pub returns-then-v-eq0 : goal.returns-then-v-eq0

@@ -2,7 +2,6 @@
 use mathlib.Core.Path.{refl}
 use borrow.Author.Tests.{lt-leb, le-leb}
 use Rattle.rate.specs.bridges.Frames.{frames_verdict}
-use borrow.Author.Rules.{rules}
 use Rattle.rate.proofs.frames.frames_verdict.Goals as goal
 
 pub returns-then-v-gt-MOST : goal.returns-then-v-gt-MOST

@@ -1,7 +1,6 @@
 -- Each branch gives the test its value in the definition.
 use borrow.Author.Tests.{le-leb, lt-leb}
 use Rattle.rate.specs.Calls.{held_frames}
-use borrow.Author.Rules.{rules}
 use Rattle.rate.proofs.frames.observe_held.Goals as goal
 
 pub returns-then-count-gt256 : goal.returns-then-count-gt256

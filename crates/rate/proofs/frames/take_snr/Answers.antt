@@ -1,5 +1,4 @@
 -- Nothing but the SNR is moved.
-use borrow.Author.Rules.{rules}
 use mathlib.Core.Path.{refl}
 use Rattle.rate.specs.bridges.Frames.{smoothed}
 use Rattle.rate.proofs.frames.take_snr.Goals as goal

@@ -1,7 +1,4 @@
 -- What the steps in place decided is put together.
-use borrow.Author.Rules.{rules}
-use Rattle.std.specs.Prelude.{◌≡◌, length}
-use mathlib.Core.Path.{sym}
 use Rattle.rate.proofs.Framing.{transmit_front}
 use Rattle.rate.proofs.frames.transmit.Goals as goal
 

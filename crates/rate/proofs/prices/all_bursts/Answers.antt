@@ -1,10 +1,7 @@
 -- What the rest of the counts says is what the whole says.
-use Rattle.std.specs.Prelude.{◌≡◌, ◌-◌, length, drop}
 use mathlib.Core.Path.{refl, ◌∙◌}
 use native.Mathlib.Omega.{arith}
-use borrow.Author.Rules.{rules}
 use Rattle.limits.specs.Values.{ok_burst}
-use Rattle.ladder.specs.Lists.{every}
 use Rattle.ladder.proofs.Every.{every_stops, every_goes_on, every_ends}
 use Rattle.std.proofs.Common.{ap}
 use Rattle.std.specs.Prelude.{not}

@@ -1,10 +1,6 @@
 use Rattle.std.specs.Prelude.{◌≡◌, ◌-◌, length, drop}
-use mathlib.Core.Path.{refl, ◌∙◌}
-use native.Mathlib.Omega.{arith}
-use borrow.Author.Rules.{rules}
 use Rattle.limits.specs.Values.{ok_burst}
 use Rattle.ladder.specs.Lists.{every}
-use Rattle.ladder.proofs.Every.{every_stops, every_goes_on, every_ends}
 use Rattle.rate.proofs.prices.all_bursts.Given as goal
 
 abbrev pub invariant-loop-i : goal.invariant-loop-i

@@ -1,8 +1,7 @@
--- The frame's rung is this one or not, as the definition asks; `own-fade` is what the constant is.
+-- The frame's rung is this one or not, as the definition asks; `own_fade_lem` is what the constant is.
 use mathlib.Core.Path.{refl}
-use borrow.Author.Tests.{eq-eqb, ne_eqb}
+use borrow.Author.Tests.{eq-eqb}
 use Rattle.rules.proofs.Fade.{own_fade_lem}
-use borrow.Author.Rules.{rules}
 use Rattle.rules.proofs.accounts.book_account.Goals as goal
 
 pub returns-then-own-r : goal.returns-then-own-r

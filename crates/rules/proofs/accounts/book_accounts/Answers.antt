@@ -15,6 +15,7 @@ use Rattle.rules.specs.bridges.Tally.{book_by, books_by}
 use borrow.Author.Rules.{rules}
 use Rattle.rules.proofs.accounts.book_accounts.Goals as goal
 
+-- a rung's factor and account, read with whatever default
 one : (fades : List Float) (f : Frame) (i : ℕ) (l : List Account) (by : Float) (x : Account) → by ≡ get_or fades i f1 → x ≡ get_or l i no_account → book_by f i by x ≡ book_by f i (get_or fades i f1) (get_or l i no_account)
 one fades f i l by x p q = rw (p, q) refl
 

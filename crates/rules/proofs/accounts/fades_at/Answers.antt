@@ -1,6 +1,5 @@
 -- The test is `is_same`; each branch gives it its value in the definition.
 use mathlib.Core.Path.{refl}
-use borrow.Author.Rules.{rules}
 use Rattle.rules.proofs.accounts.fades_at.Goals as goal
 
 pub returns-then-is_same : goal.returns-then-is_same

@@ -15,10 +15,12 @@ use Rattle.rules.proofs.Fade.{Carried, fade_by, fade_carried}
 use borrow.Author.Rules.{rules}
 use Rattle.rules.proofs.accounts.fades_for.Goals as goal
 
+-- at first there is no frame time
 none : (air : Float) → Carried air (record { time = f0; by = f1 })
 unfolding of_bits lt
 none air h = absurd h
 
+-- the factor of a rung
 abbrev by : List Row → Float → ℕ → Float
 by rows air i = factor air (get_or rows i no_row).time
 

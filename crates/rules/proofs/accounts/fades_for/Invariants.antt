@@ -1,17 +1,10 @@
-use mathlib.Core.List.{List}
-use mathlib.Core.Path.{◌≡◌, refl, ap, ◌∙◌}
-use Prim.Native.Nat.{ℕ, suc, ◌+◌, ◌-◌, ◌<◌, ◌≤◌, min}
-use native.Mathlib.Numerals.{add-one}
-use native.Mathlib.Omega.{arith}
-use lib.Ieee.{Float, of_bits, lt}
-use lib.ListN.{length, get_or, set, replicate, length-set}
-use Rattle.float.specs.Numbers.{f0, f1}
-use Rattle.ladder.specs.declared.types.Row.{Row}
+use mathlib.Core.Path.{◌≡◌}
+use Prim.Native.Nat.{ℕ, ◌-◌, ◌≤◌, min}
+use lib.ListN.{length, get_or, replicate}
+use Rattle.float.specs.Numbers.{f0}
 use Rattle.ladder.specs.Types.{no_row}
-use Rattle.ladder.proofs.Arrays.{inside, of_parts}
 use Rattle.rules.specs.bridges.Tally.{factor, fill}
-use Rattle.rules.proofs.Fade.{Carried, fade_by, fade_carried}
-use borrow.Author.Rules.{rules}
+use Rattle.rules.proofs.Fade.{Carried}
 use Rattle.rules.proofs.accounts.fades_for.Given as goal
 
 abbrev pub invariant-loop-i : goal.invariant-loop-i

@@ -1,7 +1,6 @@
 -- By what the calls ensure.
 use mathlib.Core.Path.{refl}
 use Rattle.rules.specs.bridges.Check.{check_step}
-use borrow.Author.Rules.{rules}
 use Rattle.rules.proofs.check.check_frame.Goals as goal
 
 pub returns : goal.returns

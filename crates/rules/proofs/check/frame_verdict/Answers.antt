@@ -1,9 +1,7 @@
 -- The tests that led to an answer decide the definition's chain.
 use mathlib.Core.Path.{refl}
 use borrow.Author.Tests.{lt-ltb, le-ltb}
-use Rattle.ladder.proofs.Tests.{denied, granted}
 use Rattle.rules.specs.bridges.Check.{frame_in}
-use borrow.Author.Rules.{rules}
 use Rattle.std.proofs.Common.{sym, ◌∙◌}
 use Rattle.rules.proofs.check.frame_verdict.Goals as goal
 

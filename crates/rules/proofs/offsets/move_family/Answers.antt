@@ -1,7 +1,6 @@
 -- Each branch gives its test its value in the definition.
 use mathlib.Core.Path.{refl}
 use borrow.Author.Tests.{lt-ltb, le-ltb}
-use borrow.Author.Rules.{rules}
 use Rattle.rules.proofs.offsets.move_family.Goals as goal
 
 pub returns-then-f : goal.returns-then-f

@@ -1,6 +1,5 @@
 -- By what the calls ensure.
 use mathlib.Core.Path.{refl}
-use borrow.Author.Rules.{rules}
 use Rattle.rules.proofs.offsets.move_offset.Goals as goal
 
 pub returns : goal.returns

@@ -1,7 +1,6 @@
 -- The parts are the table's and the state's own, and what the calls ensure.
 use mathlib.Core.Path.{refl}
 use Rattle.rules.specs.bridges.Tally.{begin_tally}
-use borrow.Author.Rules.{rules}
 use Rattle.rules.proofs.pass.begin_tally.Goals as goal
 
 pub returns : goal.returns

@@ -15,7 +15,7 @@ returns c =
     let long : length rows ≡ 32 = search (rules, of_parts) in
     let e : c.if-rung-lt32.threshold ≡ threshold_at rows r =
     elim c.if-rung-lt32.branch [
-      then-rung-lt32 w ↦ w.threshold-is ∙ ap (λ (x : Row). x.threshold) (inside rows r long _ no_row w.if-rung-lt32.true)
-    | else-rung-lt32 w ↦ w.threshold-is ∙ ap (λ (x : Row). x.threshold) (outside rows r long no_row w.if-rung-lt32.false)
+      | then-rung-lt32 w ↦ w.threshold-is ∙ ap (λ (x : Row). x.threshold) (inside rows r long _ no_row w.if-rung-lt32.true)
+      | else-rung-lt32 w ↦ w.threshold-is ∙ ap (λ (x : Row). x.threshold) (outside rows r long no_row w.if-rung-lt32.false)
     ] in
     rw (c.count_own.ensures, c.add_rung.ensures, c.mark_choice-marks.ensures, c.mark_family.ensures, c.move_offsets-offsets.ensures, e, c.book_accounts-accounts.ensures, c.fades_at-fades.ensures) refl

@@ -1,12 +1,4 @@
-use Rattle.std.specs.Prelude.{◌≡◌, ℕ, suc, ◌+◌, ◌-◌, ◌<◌, ◌≤◌, List, length, get_or, set}
-use mathlib.Core.Path.{refl, ap, ◌∙◌}
-use native.Mathlib.Numerals.{add-one}
-use native.Mathlib.Omega.{arith}
-use lib.Ieee.{Float}
-use lib.ListN.{length-set}
-use borrow.Author.Rules.{rules}
-use Rattle.float.specs.Numbers.{◌⊗◌, f0, f1}
-use Rattle.ladder.proofs.Arrays.{any_default}
+use Rattle.std.specs.Prelude.{◌≡◌, ◌-◌, ◌≤◌, length}
 use Rattle.steps.specs.bridges.Pass.{scaled}
 use Rattle.steps.proofs.booking.age.Given as goal
 

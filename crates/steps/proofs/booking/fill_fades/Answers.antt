@@ -1,5 +1,5 @@
 -- The invariant: the factors of the rungs before i are there, and the factor that is carried is that of its frame time.
-use Rattle.std.specs.Prelude.{◌≡◌, ◌+◌, ◌-◌, ◌*◌, ◌≤◌, length, get_or}
+use Rattle.std.specs.Prelude.{◌≡◌, ◌+◌, ◌*◌, length, get_or}
 use mathlib.Core.Path.{ap, ◌∙◌}
 use native.Mathlib.Omega.{arith}
 use lib.Ieee.{Float, of_bits, lt}
@@ -10,10 +10,11 @@ use Rattle.ladder.specs.Types.{no_row}
 use Rattle.rules.specs.bridges.Tally.{factor}
 use Rattle.rules.proofs.Fade.{Carried, fade_by, fade_carried}
 use Rattle.steps.specs.bridges.Held.{rows_in}
-use Rattle.steps.proofs.Books.{FadingTo, fading_next}
+use Rattle.steps.proofs.Books.{fading_next}
 use Rattle.steps.proofs.Three.{three, three_length}
 use Rattle.steps.proofs.booking.fill_fades.Goals as goal
 
+-- at first there is no frame time
 none : (air : Float) → Carried air (record { time = f0; by = f1 })
 unfolding of_bits lt
 none air h = absurd h

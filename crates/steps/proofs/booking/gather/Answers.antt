@@ -1,6 +1,5 @@
 -- By what the calls ensure.
 use mathlib.Core.Path.{refl}
-use borrow.Author.Rules.{rules}
 use Rattle.steps.specs.bridges.Pass.{pass_step}
 use Rattle.steps.proofs.booking.gather.Goals as goal
 

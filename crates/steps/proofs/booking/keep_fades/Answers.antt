@@ -3,7 +3,6 @@ use Rattle.std.specs.Prelude.{◌&&◌, T}
 use mathlib.Core.Path.{sym, subst, ◌∙◌}
 use lib.Ieee.{lt, eq}
 use lib.Ieee.Fits.{and_l, and_r}
-use borrow.Author.Rules.{rules}
 use Rattle.float.specs.Numbers.{f0}
 use Rattle.rules.proofs.Fade.{same_air}
 use Rattle.steps.proofs.booking.keep_fades.Goals as goal

@@ -1,6 +1,5 @@
--- The invariant: what is left of the places, from the times now, gives what all places give from the start. A rung past 31 has no time to raise, and a `set` there
+-- The invariant: what is left of the places, from the times now, gives what all places give from the start. A rung past 31 has no time to raise, and a `set` there changes nothing.
 use Rattle.std.specs.Prelude.{◌≡◌, ℕ, suc, ◌+◌, ◌-◌, ◌<◌, ◌≤◌, List, length, get_or, set}
-use mathlib.Core.Logic.{⊎_elim}
 use mathlib.Core.Path.{refl, sym, ap, ◌∙◌}
 use native.Mathlib.Numerals.{add-one}
 use native.Mathlib.Omega.{arith}
@@ -13,7 +12,7 @@ use Rattle.ladder.specs.declared.types.Table.{Table}
 use Rattle.ladder.specs.Types.{rung, rung_at}
 use Rattle.ladder.proofs.Arrays.{inside, unstored}
 use Rattle.rules.specs.Booking.{passed}
-use Rattle.steps.specs.bridges.Held.{front_in, laid}
+use Rattle.steps.specs.bridges.Held.{laid}
 use Rattle.steps.proofs.Laid.{front_at}
 use Rattle.steps.proofs.booking.pass_times.Goals.{then-r-lt32, else-r-lt32}
 use Rattle.steps.proofs.booking.pass_times.Goals as goal

@@ -1,6 +1,4 @@
 -- Three stores are the store of an account; past the end a store changes nothing.
-use Rattle.std.specs.Prelude.{◌+◌, ◌*◌, set}
-use lib.ListN.{length-set}
 use borrow.Author.Rules.{rules}
 use Rattle.ladder.proofs.Arrays.{unstored}
 use Rattle.steps.specs.bridges.Held.{accounts_of}

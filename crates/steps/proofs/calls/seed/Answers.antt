@@ -1,6 +1,5 @@
--- `steps::calls::seed` meets its contract, by the answer of the test.
+-- By the answer of the test.
 use mathlib.Core.Path.{refl}
-use borrow.Author.Rules.{rules}
 use Rattle.steps.proofs.calls.seed.Goals as goal
 
 pub returns-then-ok_db : goal.returns-then-ok_db

@@ -1,6 +1,5 @@
 -- It is never refused.
 use mathlib.Core.Path.{refl}
-use borrow.Author.Rules.{rules}
 use Rattle.steps.proofs.calls.silent.Goals as goal
 
 pub returns : goal.returns

@@ -1,19 +1,19 @@
 -- What is left of the walk gives what the whole walk gives.
-use Rattle.std.specs.Prelude.{◌≡◌, ℕ, ◌-◌, ◌<◌, ◌≤◌, Bool, true, false, cond}
+use Rattle.std.specs.Prelude.{◌≡◌, ℕ, ◌<◌, Bool, true, false, cond}
 use mathlib.Core.Path.{refl, ◌∙◌}
 use native.Mathlib.Omega.{arith}
 use lib.Ieee.{Float}
 use Rattle.ladder.specs.Types.{place, places_of}
 use Rattle.rules.specs.declared.lowest.Best.{Best}
 use Rattle.rules.specs.declared.lowest.Best.TheVariants.{NoneYet, Found}
-use Rattle.rules.specs.Lowest.{beats, improved, greatest}
+use Rattle.rules.specs.Lowest.{beats, improved}
 use Rattle.rules.specs.Tries.{candidate, choose}
 use Rattle.rules.proofs.Greatest.{worth, start, turn, done}
-use borrow.Author.Rules.{rules}
 use Rattle.steps.specs.bridges.Held.{rated, laid}
 use Rattle.steps.proofs.decide.choose_place.Goals as goal
 use Rattle.steps.proofs.decide.choose_place.Goals.{then-is_candidate, else-is_candidate}
 
+-- one place: allowed and beaten, or not allowed
 module _ (A : ℕ → Bool) (W : ℕ → Float) (i : ℕ) (b z : Best) where
   allowed : (a : Bool) (v : Float) → a ≡ A i → a ≡ true → v ≡ W i → z ≡ cond (beats v b) (Found (place i) v) b → z ≡ improved A W i b
   allowed a v e f g h = rw (h, g, ← e, f) refl
@@ -54,8 +54,8 @@ loop-i-preserved c =
     let r = c.rung_in-r.ensures in
     let z : c.if-is_candidate.best ≡ improved A W l.i l.best =
     elim c.if-is_candidate.branch [
-      then-is_candidate w ↦ allowed A W l.i l.best c.if-is_candidate.best k.result w.value_in-v.result k.ensures w.if-is_candidate.true (rw (← r) w.value_in-v.ensures) (w.best-is ∙ w.beat-best.ensures)
-    | else-is_candidate w ↦ skipped A W l.i l.best c.if-is_candidate.best k.result k.ensures w.if-is_candidate.false w.best-is
+      | then-is_candidate w ↦ allowed A W l.i l.best c.if-is_candidate.best k.result w.value_in-v.result k.ensures w.if-is_candidate.true (rw (← r) w.value_in-v.ensures) (w.best-is ∙ w.beat-best.ensures)
+      | else-is_candidate w ↦ skipped A W l.i l.best c.if-is_candidate.best k.result k.ensures w.if-is_candidate.false w.best-is
     ] in
     (omega (arith, h), turn A W (places_of (laid a.t a.reals.now a.wholes.now)) l.i l.best c.if-is_candidate.best h z ∙ l.invariant.1)
 

@@ -1,15 +1,8 @@
-use Rattle.std.specs.Prelude.{◌≡◌, ℕ, ◌-◌, ◌<◌, ◌≤◌, Bool, true, false, cond}
-use mathlib.Core.Path.{refl, ◌∙◌}
-use mathlib.Core.Logic.{⊎_elim}
-use native.Mathlib.Omega.{arith}
-use lib.Ieee.{Float}
-use Rattle.ladder.specs.Types.{place, places_of}
-use Rattle.rules.specs.declared.lowest.Best.{Best}
-use Rattle.rules.specs.declared.lowest.Best.TheVariants.{NoneYet, Found}
-use Rattle.rules.specs.Lowest.{beats, improved, greatest}
+use Rattle.std.specs.Prelude.{◌≡◌, ◌-◌, ◌≤◌}
+use Rattle.ladder.specs.Types.{places_of}
+use Rattle.rules.specs.Lowest.{greatest}
 use Rattle.rules.specs.Tries.{candidate, choose}
-use Rattle.rules.proofs.Greatest.{worth, start, turn, done}
-use borrow.Author.Rules.{rules}
+use Rattle.rules.proofs.Greatest.{worth}
 use Rattle.steps.specs.bridges.Held.{rated, laid}
 use Rattle.steps.proofs.decide.choose_place.Given as goal
 

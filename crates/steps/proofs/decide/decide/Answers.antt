@@ -1,6 +1,5 @@
 -- By the cases of the enum.
 use mathlib.Core.Path.{sym, ◌∙◌}
-use borrow.Author.Rules.{rules}
 use Rattle.steps.specs.bridges.Held.{decided_of, laid}
 use Rattle.steps.proofs.Decided.{chosen, decide_none, decide_found}
 use Rattle.steps.proofs.decide.decide.Goals as goal

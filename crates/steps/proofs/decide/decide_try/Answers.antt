@@ -1,7 +1,6 @@
 -- By the cases of the enum.
 use mathlib.Core.Path.{sym, ap, ◌∙◌}
 use Rattle.std.specs.Prelude.{suc, ◌&&◌, eqb}
-use borrow.Author.Rules.{rules}
 use Rattle.rules.specs.Echo.{usable}
 use Rattle.rules.specs.Tries.{still, above, decide_try}
 use Rattle.steps.specs.bridges.Held.{held, bare, laid}

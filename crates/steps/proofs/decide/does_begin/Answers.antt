@@ -1,6 +1,5 @@
 -- Each return is the definition where the tests are as the way there found them.
 use mathlib.Core.Path.{refl}
-use borrow.Author.Rules.{rules}
 use Rattle.steps.specs.bridges.Held.{laid}
 use Rattle.steps.proofs.Decided.{begins_held}
 use Rattle.steps.proofs.decide.does_begin.Goals as goal

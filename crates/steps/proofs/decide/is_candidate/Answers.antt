@@ -1,7 +1,6 @@
 -- Each return is the definition where the tests are as the way there found them.
 use mathlib.Core.Path.{refl}
 use Rattle.ladder.specs.Types.{places_of}
-use borrow.Author.Rules.{rules}
 use borrow.Author.Tests.{lt-ltb, le-leb, lt-leb}
 use Rattle.steps.specs.bridges.Held.{laid}
 use Rattle.steps.proofs.decide.is_candidate.Goals as goal

@@ -1,6 +1,5 @@
 -- Each return is the definition where the tests are as the way there found them.
 use mathlib.Core.Path.{refl}
-use borrow.Author.Rules.{rules}
 use borrow.Author.Tests.{eq-eqb, ne_eqb}
 use Rattle.account.specs.Price.{value, estimate_at}
 use Rattle.rules.specs.Tries.{clean_climb}

@@ -1,6 +1,5 @@
 -- What was read is the definition's.
 use mathlib.Core.Path.{refl}
-use borrow.Author.Rules.{rules}
 use Rattle.steps.proofs.decide.is_due.Goals as goal
 
 pub returns : goal.returns

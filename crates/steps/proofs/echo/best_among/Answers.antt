@@ -1,20 +1,12 @@
 -- What is left of the walk gives what the whole walk gives, which ends at place 32 at the latest.
-use Rattle.std.specs.Prelude.{◌≡◌, ℕ, ◌-◌, ◌≤◌, min, List}
+use Rattle.std.specs.Prelude.{min}
 use mathlib.Core.Path.{◌∙◌}
 use native.Mathlib.Omega.{arith}
-use lib.Ieee.{Float}
-use Rattle.ladder.specs.declared.types.Table.{Table}
-use Rattle.ladder.specs.Types.{rung_at}
-use Rattle.account.specs.declared.types.Prices.{Prices}
-use Rattle.account.specs.Price.{value}
 use Rattle.rules.specs.declared.lowest.Best.TheVariants.{NoneYet}
 use Rattle.rules.specs.Echo.{usable}
-use Rattle.rules.specs.Lowest.{greatest}
 use Rattle.rules.proofs.Usable.{none_past}
 use Rattle.rules.proofs.Greatest.{start_capped, turn, done}
-use Rattle.account.specs.declared.types.Core.{Core}
-use Rattle.steps.specs.bridges.Held.{rated, bare, laid}
-use borrow.Author.Rules.{rules}
+use Rattle.steps.specs.bridges.Held.{bare, laid}
 use Rattle.steps.proofs.echo.best_among.Invariants.{worth}
 use Rattle.steps.proofs.echo.best_among.Goals as goal
 

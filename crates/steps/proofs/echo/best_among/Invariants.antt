@@ -1,6 +1,4 @@
 use Rattle.std.specs.Prelude.{◌≡◌, ℕ, ◌-◌, ◌≤◌, min, List}
-use mathlib.Core.Path.{◌∙◌}
-use native.Mathlib.Omega.{arith}
 use lib.Ieee.{Float}
 use Rattle.ladder.specs.declared.types.Table.{Table}
 use Rattle.ladder.specs.Types.{rung_at}
@@ -9,11 +7,8 @@ use Rattle.account.specs.Price.{value}
 use Rattle.rules.specs.declared.lowest.Best.TheVariants.{NoneYet}
 use Rattle.rules.specs.Echo.{usable}
 use Rattle.rules.specs.Lowest.{greatest}
-use Rattle.rules.proofs.Usable.{none_past}
-use Rattle.rules.proofs.Greatest.{start_capped, turn, done}
 use Rattle.account.specs.declared.types.Core.{Core}
 use Rattle.steps.specs.bridges.Held.{rated, bare, laid}
-use borrow.Author.Rules.{rules}
 use Rattle.steps.proofs.echo.best_among.Given as goal
 
 abbrev pub worth : Table → Prices → List Float → Core → ℕ → Float

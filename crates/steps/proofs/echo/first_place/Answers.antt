@@ -1,5 +1,4 @@
 -- The values at the core with the SNR given are the priced estimates at that SNR.
-use borrow.Author.Rules.{rules}
 use mathlib.Core.Path.{refl}
 use Rattle.account.specs.Price.{estimate_at, value}
 use Rattle.steps.proofs.echo.first_place.Goals as goal

@@ -1,13 +1,9 @@
 -- What is left of the walk gives what the whole walk gives.
-use Rattle.std.specs.Prelude.{◌≡◌, ℕ, ◌-◌, ◌≤◌, min, Bool, not, ltb, List}
+use Rattle.std.specs.Prelude.{min, not, ltb}
 use mathlib.Core.Path.{ap, ◌∙◌}
 use native.Mathlib.Omega.{arith}
 use borrow.Author.Tests.{lt-ltb, le-ltb}
-use Rattle.ladder.specs.Lists.{some_from}
-use Rattle.ladder.specs.declared.types.Air.{Air}
 use Rattle.rules.proofs.Ranges.{start, found, further, done}
-use borrow.Author.Rules.{rules}
-use Rattle.steps.specs.bridges.Held.{rung_in}
 use Rattle.steps.proofs.echo.has_ofdm.Invariants.{ofdm_at}
 use Rattle.steps.proofs.echo.has_ofdm.Goals as goal
 

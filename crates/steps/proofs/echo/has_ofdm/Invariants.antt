@@ -1,14 +1,10 @@
 use Rattle.std.specs.Prelude.{◌≡◌, ℕ, ◌-◌, ◌≤◌, min, Bool, not, ltb, List}
-use mathlib.Core.Path.{ap, ◌∙◌}
-use native.Mathlib.Omega.{arith}
-use borrow.Author.Tests.{lt-ltb, le-ltb}
 use Rattle.ladder.specs.Lists.{some_from}
 use Rattle.ladder.specs.declared.types.Air.{Air}
-use Rattle.rules.proofs.Ranges.{start, found, further, done}
-use borrow.Author.Rules.{rules}
 use Rattle.steps.specs.bridges.Held.{rung_in}
 use Rattle.steps.proofs.echo.has_ofdm.Given as goal
 
+-- whether the rung at a place is OFDM
 abbrev pub ofdm_at : Air → List ℕ → ℕ → Bool
 ofdm_at t wholes i = not (ltb (rung_in wholes i) t.floors)
 

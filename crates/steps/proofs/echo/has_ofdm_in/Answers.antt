@@ -1,14 +1,11 @@
 -- What is left of the walk gives what the whole walk gives.
-use Rattle.std.specs.Prelude.{◌≡◌, ℕ, ◌-◌, ◌≤◌, Bool, not, ◌&&◌}
+use Rattle.std.specs.Prelude.{◌≡◌, ℕ, Bool}
 use mathlib.Core.Path.{ap, ◌∙◌}
 use native.Mathlib.Omega.{arith}
 use Rattle.limits.specs.declared.reading.Reading.{Reading}
 use Rattle.ladder.specs.declared.types.Table.{Table}
-use Rattle.ladder.specs.Lists.{some_from}
-use Rattle.ladder.specs.Types.{row, rung_at, places_of, is_floor}
-use Rattle.rules.specs.Echo.{over}
+use Rattle.ladder.specs.Types.{rung_at, places_of}
 use Rattle.rules.proofs.Ranges.{start, found, further, done}
-use borrow.Author.Rules.{rules}
 use Rattle.steps.specs.bridges.Held.{laid}
 use Rattle.steps.proofs.echo.has_ofdm_in.Invariants.{clear, inside}
 use Rattle.steps.proofs.echo.has_ofdm_in.Goals as goal

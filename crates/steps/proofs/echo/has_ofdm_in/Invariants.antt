@@ -1,16 +1,13 @@
 use Rattle.std.specs.Prelude.{◌≡◌, ℕ, ◌-◌, ◌≤◌, Bool, not, ◌&&◌}
-use mathlib.Core.Path.{ap, ◌∙◌}
-use native.Mathlib.Omega.{arith}
 use Rattle.limits.specs.declared.reading.Reading.{Reading}
 use Rattle.ladder.specs.declared.types.Table.{Table}
 use Rattle.ladder.specs.Lists.{some_from}
 use Rattle.ladder.specs.Types.{row, rung_at, places_of, is_floor}
 use Rattle.rules.specs.Echo.{over}
-use Rattle.rules.proofs.Ranges.{start, found, further, done}
-use borrow.Author.Rules.{rules}
 use Rattle.steps.specs.bridges.Held.{laid}
 use Rattle.steps.proofs.echo.has_ofdm_in.Given as goal
 
+-- a rung that is OFDM and not out
 abbrev pub clear : Table → Reading → ℕ → Bool
 clear t e r = not (is_floor t r) && not (over (row t r).limit e)
 

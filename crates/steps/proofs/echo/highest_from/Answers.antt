@@ -1,11 +1,10 @@
 -- The walk down from where it stands gives what the walk from the top gives.
-use Rattle.std.specs.Prelude.{◌≡◌, ◌-◌}
+use Rattle.std.specs.Prelude.{◌≡◌}
 use mathlib.Core.Path.{ap, ◌∙◌}
 use native.Mathlib.Omega.{arith}
 use Rattle.rules.specs.Echo.{highest}
 use Rattle.steps.specs.bridges.Held.{bare, laid}
 use Rattle.rules.proofs.Walks.{highest_capped, highest_found, highest_further}
-use borrow.Author.Rules.{rules}
 use Rattle.steps.proofs.echo.highest_from.Goals as goal
 
 pub loop-i-init : goal.loop-i-init

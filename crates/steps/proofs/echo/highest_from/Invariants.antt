@@ -1,10 +1,6 @@
-use Rattle.std.specs.Prelude.{◌≡◌, ◌-◌}
-use mathlib.Core.Path.{ap, ◌∙◌}
-use native.Mathlib.Omega.{arith}
+use Rattle.std.specs.Prelude.{◌≡◌}
 use Rattle.rules.specs.Echo.{highest}
 use Rattle.steps.specs.bridges.Held.{bare, laid}
-use Rattle.rules.proofs.Walks.{highest_capped, highest_found, highest_further}
-use borrow.Author.Rules.{rules}
 use Rattle.steps.proofs.echo.highest_from.Given as goal
 
 abbrev pub invariant-loop-i : goal.invariant-loop-i

@@ -1,6 +1,5 @@
 -- Each return is the definition where the tests are as the way there found them.
 use mathlib.Core.Path.{refl}
-use borrow.Author.Rules.{rules}
 use Rattle.steps.proofs.echo.improve.Goals as goal
 
 pub returns-then-is_usable : goal.returns-then-is_usable

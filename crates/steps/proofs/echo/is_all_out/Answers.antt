@@ -4,7 +4,6 @@ use mathlib.Core.Bool.{and-true, and-false}
 use Rattle.ladder.specs.Lists.{some_from}
 use Rattle.ladder.specs.Types.{places_of}
 use Rattle.rules.specs.Echo.{ofdm_at, all_out}
-use borrow.Author.Rules.{rules}
 use Rattle.steps.specs.bridges.Held.{laid}
 use Rattle.steps.proofs.echo.is_all_out.Goals as goal
 

@@ -1,6 +1,5 @@
 -- Each return is the definition where the tests are as the way there found them.
 use mathlib.Core.Path.{refl}
-use borrow.Author.Rules.{rules}
 use Rattle.steps.proofs.echo.is_back_on_floor.Goals as goal
 
 pub returns-then-c : goal.returns-then-c

@@ -2,7 +2,6 @@
 use mathlib.Core.Path.{refl}
 use native.Mathlib.Omega.{arith}
 use borrow.Author.Tests.{lt-ltb, le-ltb}
-use borrow.Author.Rules.{rules}
 use Rattle.steps.proofs.echo.is_ofdm_in.Goals as goal
 
 pub returns-then-r-t : goal.returns-then-r-t

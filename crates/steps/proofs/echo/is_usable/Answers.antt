@@ -3,7 +3,6 @@ use mathlib.Core.Path.{refl}
 use native.Mathlib.Omega.{arith}
 use borrow.Author.Tests.{lt-ltb, le-ltb}
 use Rattle.ladder.specs.Types.{places_of}
-use borrow.Author.Rules.{rules}
 use Rattle.steps.specs.bridges.Held.{laid}
 use Rattle.steps.proofs.echo.is_usable.Goals as goal
 

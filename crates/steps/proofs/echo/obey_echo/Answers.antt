@@ -13,7 +13,6 @@ use Rattle.rules.specs.Lowest.{greatest, best_place}
 use Rattle.account.specs.declared.types.Core.{Core}
 use Rattle.steps.specs.bridges.Held.{rated, bare, laid}
 use Rattle.steps.proofs.Framing.{ended}
-use borrow.Author.Rules.{rules}
 use Rattle.steps.proofs.echo.obey_echo.Goals as goal
 
 module _ (t : Table) (p : Prices) (books : List Float) (c : Core) (u : Bool) (e : u ≡ over (row t (rung_at t c.place.0)).limit c.echo) where

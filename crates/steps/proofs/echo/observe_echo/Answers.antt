@@ -11,9 +11,9 @@ use Rattle.account.specs.State.{core_with_echo}
 use Rattle.rules.specs.Echo.{smooth_echo, echoed, observe_echo}
 use Rattle.account.specs.declared.types.Core.{Core}
 use Rattle.steps.specs.bridges.Held.{rated, laid}
-use borrow.Author.Rules.{rules}
 use Rattle.steps.proofs.echo.observe_echo.Goals as goal
 
+-- a share x that is heard: the core z with the echo y smoothed, and what that does to it
 heard : (t : Table) (p : Prices) (books : List Float) (c : Core) (x snr : Float) {share y : Reading} {z m : Core}
     → lt snr (neg (f64 0x4018_0000_0000_0000)) ≡ false → share ≡ Value x → y ≡ smooth_echo c.echo x → z ≡ core_with_echo c y → m ≡ (echoed t p (rated books z)).core
     → m ≡ (observe_echo t p (rated books c) share snr).core

@@ -3,7 +3,6 @@ use mathlib.Core.Path.{refl}
 use native.Mathlib.Omega.{arith}
 use borrow.Author.Tests.{le-ltb}
 use Rattle.rules.specs.Echo.{refuses}
-use borrow.Author.Rules.{rules}
 use Rattle.steps.proofs.echo.refuses_ofdm.Goals as goal
 
 pub returns-then-is_back_on_floor : goal.returns-then-is_back_on_floor

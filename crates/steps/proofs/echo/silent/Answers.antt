@@ -1,7 +1,6 @@
 -- What was read is the definition's.
 use mathlib.Core.Path.{refl}
 use Rattle.rules.specs.Echo.{silent}
-use borrow.Author.Rules.{rules}
 use Rattle.steps.proofs.echo.silent.Goals as goal
 
 pub returns : goal.returns

@@ -1,6 +1,5 @@
 -- By the cases of the enum, and the test as each arm found it.
 use mathlib.Core.Path.{refl, sym, ◌∙◌}
-use borrow.Author.Rules.{rules}
 use Rattle.steps.proofs.echo.try_if_in.Goals as goal
 
 pub returns-then-is_out : goal.returns-then-is_out

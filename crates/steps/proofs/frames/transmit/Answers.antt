@@ -10,7 +10,6 @@ use Rattle.rules.specs.Booking.{passed}
 use Rattle.rules.specs.bridges.Sets.{judge_set}
 use Rattle.rules.specs.Tries.{Decided}
 use Rattle.rules.specs.Tries.{counted, decide}
-use borrow.Author.Rules.{rules}
 use Rattle.account.specs.declared.types.Core.{Core}
 use Rattle.account.specs.State.{choice}
 use Rattle.steps.specs.bridges.Held.{held, bare, decided_of, laid}

@@ -1,11 +1,10 @@
 -- Each return is the definition where the tests are as the way there found them.
-use Rattle.std.specs.Prelude.{◌≡◌, suc, ◌+◌, ◌<◌, Bool, true, false, ◌||◌, T}
+use Rattle.std.specs.Prelude.{◌≡◌, suc, ◌+◌, Bool, true, false, ◌||◌, T}
 use mathlib.Core.Path.{refl, sym, subst, ◌∙◌}
 use native.Mathlib.Omega.{arith}
 use native.Mathlib.Numerals.{add-one}
 use borrow.Author.Tests.{leb-false}
 use Rattle.rules.specs.Tries.{counted}
-use borrow.Author.Rules.{rules}
 use Rattle.steps.proofs.judge.count_running.Goals as goal
 
 neither : (a b : Bool) → (a || b) ≡ false → (a ≡ false) × (b ≡ false)

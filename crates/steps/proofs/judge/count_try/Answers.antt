@@ -2,7 +2,6 @@
 use mathlib.Core.Path.{refl, sym, ap, ◌∙◌}
 use Rattle.rules.specs.Tries.{counted}
 use Rattle.steps.specs.bridges.Held.{held, laid}
-use borrow.Author.Rules.{rules}
 use Rattle.steps.proofs.judge.count_try.Goals as goal
 
 pub returns-in-Nothing : goal.returns-in-Nothing

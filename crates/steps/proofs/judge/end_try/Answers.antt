@@ -4,7 +4,6 @@ use borrow.Author.Tests.{eq-eqb, ne_eqb}
 use Rattle.rules.specs.Tries.{end_try}
 use Rattle.steps.specs.bridges.Held.{laid}
 use Rattle.steps.proofs.Judged.{better_held, judged, moved}
-use borrow.Author.Rules.{rules}
 use Rattle.steps.proofs.judge.end_try.Goals as goal
 
 pub returns-then-frames-eq0 : goal.returns-then-frames-eq0

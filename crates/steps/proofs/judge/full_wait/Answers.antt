@@ -2,7 +2,6 @@
 use mathlib.Core.Path.{refl}
 use Rattle.account.specs.Price.{wait_seconds, full_air}
 use Rattle.rules.specs.Tries.{full_wait}
-use borrow.Author.Rules.{rules}
 use Rattle.steps.proofs.judge.full_wait.Goals as goal
 
 pub returns-then-is_above_usable : goal.returns-then-is_above_usable

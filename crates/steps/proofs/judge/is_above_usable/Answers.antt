@@ -6,7 +6,6 @@ use native.Mathlib.Numerals.{add-one}
 use Rattle.rules.specs.Echo.{usable}
 use Rattle.rules.proofs.Usable.{none_past}
 use Rattle.steps.specs.bridges.Held.{bare, laid}
-use borrow.Author.Rules.{rules}
 use Rattle.steps.proofs.judge.is_above_usable.Goals as goal
 
 pub returns-then-here-lt32 : goal.returns-then-here-lt32

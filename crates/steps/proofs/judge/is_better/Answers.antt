@@ -1,6 +1,5 @@
 -- The two values are the definition's.
 use mathlib.Core.Path.{refl}
-use borrow.Author.Rules.{rules}
 use Rattle.steps.proofs.judge.is_better.Goals as goal
 
 pub returns : goal.returns

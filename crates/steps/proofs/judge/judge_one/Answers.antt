@@ -1,9 +1,7 @@
 -- Each return is the definition where the tests are as the way there found them.
-use mathlib.Core.Path.{refl}
-use borrow.Author.Tests.{lt-ltb, le-ltb}
+use borrow.Author.Tests.{lt-ltb}
 use Rattle.steps.specs.bridges.Held.{laid}
 use Rattle.steps.proofs.Judged.{judged}
-use borrow.Author.Rules.{rules}
 use Rattle.std.proofs.Common.{ap}
 use Rattle.std.specs.Prelude.{not}
 use Rattle.steps.proofs.judge.judge_one.Goals as goal

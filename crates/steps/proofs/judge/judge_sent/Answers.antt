@@ -1,8 +1,8 @@
 -- What is left of the set gives what the whole set gives; each turn takes out its lowest rung.
-use Rattle.std.specs.Prelude.{◌≡◌, ◌^◌, ◌<◌, length}
+use Rattle.std.specs.Prelude.{◌≡◌}
 use mathlib.Core.Path.{refl, sym, ap, ◌∙◌}
 use native.Mathlib.Omega.{arith}
-use lib.Count.{ones, count_trailing_zeros}
+use lib.Count.{count_trailing_zeros}
 use Rattle.rules.specs.bridges.Sets.{judge_set}
 use Rattle.rules.proofs.Set.{Lowest, lowest, some, shift, empty, judge_next, judge_none}
 use Rattle.steps.specs.bridges.Held.{held, laid}

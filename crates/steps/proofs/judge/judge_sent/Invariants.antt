@@ -1,11 +1,7 @@
 use Rattle.std.specs.Prelude.{◌≡◌, ◌^◌, ◌<◌, length}
-use mathlib.Core.Path.{refl, sym, ap, ◌∙◌}
-use native.Mathlib.Omega.{arith}
-use lib.Count.{ones, count_trailing_zeros}
+use lib.Count.{ones}
 use Rattle.rules.specs.bridges.Sets.{judge_set}
-use Rattle.rules.proofs.Set.{Lowest, lowest, some, shift, empty, judge_next, judge_none}
 use Rattle.steps.specs.bridges.Held.{held, laid}
-use borrow.Author.Rules.{rules}
 use Rattle.steps.proofs.judge.judge_sent.Given as goal
 
 abbrev pub invariant-loop-left : goal.invariant-loop-left

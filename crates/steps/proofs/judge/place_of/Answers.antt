@@ -1,14 +1,12 @@
 -- What is left of the walk gives what the whole walk gives.
-use Rattle.std.specs.Prelude.{◌≡◌, ℕ, ◌-◌, ◌≤◌, List, get_or}
+use Rattle.std.specs.Prelude.{◌≡◌, ℕ, ◌-◌, List, get_or}
 use mathlib.Core.Path.{refl, sym, ap, ◌∙◌}
 use native.Mathlib.Omega.{arith}
 use Rattle.ladder.specs.declared.types.Rung.{Rung}
-use Rattle.ladder.specs.declared.types.Table.{Table}
 use Rattle.ladder.specs.Types.{rung}
 use Rattle.rules.specs.Tries.{place_from}
 use Rattle.rules.proofs.Walks.{place_found, place_further}
-use borrow.Author.Rules.{rules}
-use Rattle.steps.specs.bridges.Held.{front_in, laid}
+use Rattle.steps.specs.bridges.Held.{laid}
 use Rattle.steps.proofs.judge.place_of.Goals as goal
 
 pub loop-i-init : goal.loop-i-init

@@ -1,13 +1,7 @@
-use Rattle.std.specs.Prelude.{◌≡◌, ℕ, ◌-◌, ◌≤◌, List, get_or}
-use mathlib.Core.Path.{refl, sym, ap, ◌∙◌}
-use native.Mathlib.Omega.{arith}
-use Rattle.ladder.specs.declared.types.Rung.{Rung}
+use Rattle.std.specs.Prelude.{◌≡◌, ◌-◌, ◌≤◌}
 use Rattle.ladder.specs.declared.types.Table.{Table}
-use Rattle.ladder.specs.Types.{rung}
 use Rattle.rules.specs.Tries.{place_from}
-use Rattle.rules.proofs.Walks.{place_found, place_further}
-use borrow.Author.Rules.{rules}
-use Rattle.steps.specs.bridges.Held.{front_in, laid}
+use Rattle.steps.specs.bridges.Held.{front_in}
 use Rattle.steps.proofs.judge.place_of.Given as goal
 
 abbrev pub invariant-loop-i : goal.invariant-loop-i

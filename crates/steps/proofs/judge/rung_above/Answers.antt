@@ -1,13 +1,11 @@
 -- The place above is the next, and past the array the default is read.
-use mathlib.Core.Path.{ap, ◌∙◌}
+use mathlib.Core.Path.{ap}
 use Rattle.std.specs.Prelude.{suc}
 use native.Mathlib.Omega.{arith}
-use native.Mathlib.Numerals.{add-one}
 use Rattle.ladder.specs.declared.types.Rung.{Rung}
 use Rattle.ladder.specs.Types.{rung}
 use Rattle.ladder.proofs.Arrays.{outside}
-use borrow.Author.Rules.{rules}
-use Rattle.steps.specs.bridges.Held.{front_in, rung_in}
+use Rattle.steps.specs.bridges.Held.{front_in}
 use Rattle.steps.proofs.Laid.{front_length}
 use Rattle.steps.proofs.judge.rung_above.Goals as goal
 

@@ -1,5 +1,4 @@
 -- By its row's frame time.
-use borrow.Author.Rules.{rules}
 use mathlib.Core.Path.{refl}
 use Rattle.steps.proofs.read.full_air_in.Goals as goal
 

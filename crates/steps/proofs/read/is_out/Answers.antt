@@ -1,5 +1,4 @@
 -- Without an echo no rung is out.
-use borrow.Author.Rules.{rules}
 use Rattle.std.specs.Prelude.{◌≡◌, false, get_or}
 use mathlib.Core.Path.{refl, sym}
 use Rattle.limits.specs.declared.reading.Reading.{Reading}

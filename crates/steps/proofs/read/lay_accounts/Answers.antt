@@ -1,6 +1,6 @@
 -- Each turn lays out an account's three numbers.
-use Rattle.std.specs.Prelude.{◌≡◌, ℕ, ◌+◌, ◌-◌, ◌*◌, ◌<◌, ◌≤◌, length, get_or}
-use mathlib.Core.Path.{sym, ◌∙◌}
+use Rattle.std.specs.Prelude.{◌≡◌, ◌+◌, ◌*◌, ◌<◌, length, get_or}
+use mathlib.Core.Path.{◌∙◌}
 use native.Mathlib.Omega.{arith}
 use lib.Ieee.{nan}
 use borrow.Author.Rules.{rules}
@@ -8,9 +8,10 @@ use Rattle.ladder.proofs.Arrays.{inside, of_parts}
 use Rattle.account.specs.declared.types.Account.{Account}
 use Rattle.account.specs.State.{no_account}
 use Rattle.steps.proofs.Three.{in_one, in_two, three_length}
-use Rattle.steps.proofs.Books.{account_from, books_next, books_all}
+use Rattle.steps.proofs.Books.{books_next, books_all}
 use Rattle.steps.proofs.read.lay_accounts.Goals as goal
 
+-- what a read past the array would give
 abbrev unread : Account
 unread = record { bytes = nan; air = nan; frames = nan }
 

@@ -1,6 +1,6 @@
 -- Each turn lays out a rung's three reals, and a place's rung with a rung's capacity and whether it has a limit.
-use Rattle.std.specs.Prelude.{◌≡◌, ℕ, ◌+◌, ◌-◌, ◌*◌, ◌<◌, ◌≤◌, length, get_or}
-use mathlib.Core.Path.{refl, sym, ◌∙◌}
+use Rattle.std.specs.Prelude.{◌≡◌, ◌+◌, ◌*◌, ◌<◌, length, get_or}
+use mathlib.Core.Path.{refl, ◌∙◌}
 use native.Mathlib.Omega.{arith}
 use lib.Ieee.{nan}
 use borrow.Author.Rules.{rules}
@@ -9,9 +9,10 @@ use Rattle.ladder.specs.declared.types.Row.{Row}
 use Rattle.ladder.specs.Types.{rung, no_row}
 use Rattle.ladder.proofs.Arrays.{inside, of_parts}
 use Rattle.steps.proofs.Three.{in_one, in_two, three_length}
-use Rattle.steps.proofs.Laid.{RealsAt, WholesAt, stands, reals_next, wholes_next}
+use Rattle.steps.proofs.Laid.{stands, reals_next, wholes_next}
 use Rattle.steps.proofs.read.lay_table.Goals as goal
 
+-- what a read past the array would give
 abbrev unread : Row
 unread = record { threshold = nan; capacity = 0; time = nan; limit = Missing }
 

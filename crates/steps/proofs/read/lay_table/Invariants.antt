@@ -1,14 +1,5 @@
-use Rattle.std.specs.Prelude.{◌≡◌, ℕ, ◌+◌, ◌-◌, ◌*◌, ◌<◌, ◌≤◌, length, get_or}
-use mathlib.Core.Path.{refl, sym, ◌∙◌}
-use native.Mathlib.Omega.{arith}
-use lib.Ieee.{nan}
-use borrow.Author.Rules.{rules}
-use Rattle.limits.specs.declared.reading.Reading.TheVariants.{Missing}
-use Rattle.ladder.specs.declared.types.Row.{Row}
-use Rattle.ladder.specs.Types.{rung, no_row}
-use Rattle.ladder.proofs.Arrays.{inside, of_parts}
-use Rattle.steps.proofs.Three.{in_one, in_two, three_length}
-use Rattle.steps.proofs.Laid.{RealsAt, WholesAt, stands, reals_next, wholes_next}
+use Rattle.std.specs.Prelude.{◌≡◌, ℕ, ◌-◌, ◌<◌, ◌≤◌, length}
+use Rattle.steps.proofs.Laid.{RealsAt, WholesAt}
 use Rattle.steps.proofs.read.lay_table.Given as goal
 
 abbrev pub invariant-loop-i : goal.invariant-loop-i

@@ -1,5 +1,4 @@
 -- Priced by its row.
-use borrow.Author.Rules.{rules}
 use mathlib.Core.Path.{refl}
 use Rattle.account.specs.Price.{lossless, priced, lossless_price}
 use Rattle.steps.proofs.read.lossless_in.Goals as goal

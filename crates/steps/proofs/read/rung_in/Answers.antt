@@ -1,5 +1,4 @@
 -- On the array its entry, and past it the default.
-use borrow.Author.Rules.{rules}
 use mathlib.Core.Path.{sym, ap}
 use native.Mathlib.Omega.{arith}
 use Rattle.ladder.specs.declared.types.Rung.{Rung}

@@ -1,5 +1,4 @@
 -- Rated by its row and account.
-use borrow.Author.Rules.{rules}
 use Rattle.account.proofs.Rates.{valued}
 use Rattle.steps.specs.bridges.Held.{laid, rated}
 use Rattle.steps.proofs.read.value_in.Goals as goal

@@ -1,5 +1,4 @@
 -- By whether the rung is in the table.
-use borrow.Author.Rules.{rules}
 use mathlib.Core.Path.{refl}
 use Rattle.rate.specs.Reads.{account_of}
 use Rattle.rate.proofs.types.RateController.account.Goals as goal

@@ -1,5 +1,4 @@
 -- Rated by its row and account, where it is in the table.
-use borrow.Author.Rules.{rules}
 use mathlib.Core.Path.{refl}
 use Rattle.account.proofs.Rates.{estimated}
 use Rattle.rate.specs.Reads.{estimate_of}

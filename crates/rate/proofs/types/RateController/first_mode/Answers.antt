@@ -1,5 +1,4 @@
 -- By whether the SNR is within its limits.
-use borrow.Author.Rules.{rules}
 use Rattle.std.specs.Prelude.{◌≡◌, List}
 use mathlib.Core.Path.{refl, ◌∙◌}
 use lib.Ieee.{Float}
@@ -11,6 +10,7 @@ use Rattle.rate.specs.Calls.{RateController}
 use Rattle.rate.specs.Reads.{first_mode}
 use Rattle.rate.proofs.types.RateController.first_mode.Goals as goal
 
+-- where the SNR is taken, times and waits do not matter
 placed : (k : RateController) (t : Table) (b : List Float) (snr : Float) → t ≡ k.table → accounts_of b ≡ k.state.accounts → first_place t k.prices (rated b k.state.core) snr ≡ first_place k.table k.prices k.state snr
 unfolding estimate_at
 placed k t b snr e f = rw (e, f) refl

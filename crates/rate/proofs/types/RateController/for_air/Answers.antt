@@ -1,7 +1,6 @@
 -- The table is the definition's, and the rest is kept.
 use mathlib.Core.Path.{refl}
 use Rattle.rate.specs.Reads.{for_air_of}
-use borrow.Author.Rules.{rules}
 use Rattle.rate.proofs.types.RateController.for_air.Goals as goal
 
 pub returns : goal.returns

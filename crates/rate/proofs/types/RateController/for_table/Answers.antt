@@ -1,7 +1,6 @@
 -- The table that was made, or none, with a fresh controller of it.
 use mathlib.Core.Path.{refl}
 use Rattle.rate.specs.Reads.{made}
-use borrow.Author.Rules.{rules}
 use Rattle.rate.proofs.types.RateController.for_table.Goals as goal
 
 pub returns : goal.returns

@@ -1,5 +1,4 @@
 -- By its row, where it is in the table.
-use borrow.Author.Rules.{rules}
 use mathlib.Core.Path.{refl}
 use Rattle.account.specs.Price.{lossless}
 use Rattle.rate.specs.Reads.{lossless_of}

@@ -1,5 +1,4 @@
 -- What the call in place moved is put back.
-use borrow.Author.Rules.{rules}
 use mathlib.Core.Path.{◌∙◌}
 use Rattle.rate.proofs.Framing.{snr_front}
 use Rattle.rate.proofs.types.RateController.observe_snr.Goals as goal

@@ -1,7 +1,6 @@
 -- The result is that of `step`, by the answers of the tests.
 use mathlib.Core.Path.{◌∙◌}
 use Rattle.rate.proofs.ByKind.{price_outside, price_too_many, price_done}
-use borrow.Author.Rules.{rules}
 use Rattle.rate.proofs.types.RateController.price_exchanges.Goals as goal
 
 pub returns-then-burst_frames-gt32 : goal.returns-then-burst_frames-gt32

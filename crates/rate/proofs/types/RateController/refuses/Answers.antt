@@ -1,5 +1,4 @@
 -- A floor rung is never refused, and all others are as one.
-use borrow.Author.Rules.{rules}
 use Rattle.std.specs.Prelude.{◌≡◌, ℕ, Bool, false, ltb}
 use mathlib.Core.Path.{refl, sym, ap, ◌∙◌}
 use native.Mathlib.Omega.{arith}
@@ -10,6 +9,7 @@ use Rattle.steps.specs.bridges.Held.{bare}
 use Rattle.rules.specs.Echo.{all_out, refuses}
 use Rattle.rate.proofs.types.RateController.refuses.Goals as goal
 
+-- of all OFDM rungs one answer is right, and the floor count is one of them
 refused_by_lem : (t k : Table) (s : State) (r : ℕ) (b : Bool) → t ≡ k → b ≡ refuses t (bare s.core) t.air.floors → ltb r k.air.floors ≡ false → b ≡ refuses k s r
 unfolding refuses all_out
 refused_by_lem t k s r b e f g =

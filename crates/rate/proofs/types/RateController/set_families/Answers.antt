@@ -1,6 +1,5 @@
 -- It is never refused.
 use Rattle.rate.specs.Calls.{step, verdict, accepted}
-use borrow.Author.Rules.{rules}
 use Rattle.rate.proofs.types.RateController.set_families.Goals as goal
 
 pub returns : goal.returns

@@ -1,7 +1,6 @@
 -- Each arm is what `cond` picks where the test is as the arm found it.
 use mathlib.Core.Path.{refl}
 use Rattle.rate.specs.Reads.{threshold_of}
-use borrow.Author.Rules.{rules}
 use Rattle.rate.proofs.types.RateController.threshold_db.Goals as goal
 
 pub returns-then-in_table : goal.returns-then-in_table

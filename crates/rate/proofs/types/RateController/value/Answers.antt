@@ -1,5 +1,4 @@
 -- Rated by its row and account, where it is in the table.
-use borrow.Author.Rules.{rules}
 use mathlib.Core.Path.{refl}
 use Rattle.account.proofs.Rates.{valued}
 use Rattle.rate.specs.Reads.{value_of}
