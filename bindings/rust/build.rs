@@ -4,7 +4,7 @@ use std::env;
 use std::path::PathBuf;
 
 /// Where the library is, from this folder, when `EXPORTS_DIR` is not set.
-const EXPORTS: &str = "../../target/staticlib";
+const EXPORTS: &str = "../../crates/exports/out";
 
 fn main() {
     let here = PathBuf::from(env::var_os("CARGO_MANIFEST_DIR").expect("set by cargo"));
@@ -18,7 +18,7 @@ fn main() {
         println!("cargo::rustc-link-search=native={}", folder.display());
     } else {
         println!(
-            "cargo::error=no {}: run `rt staticlib exports` in the repository's root, or set EXPORTS_DIR to its folder",
+            "cargo::error=no {}: run `rt lib` in crates/exports, or set EXPORTS_DIR to its folder",
             library.display()
         );
     }

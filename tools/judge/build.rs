@@ -6,8 +6,10 @@ use std::{env, fs};
 
 /// Where the source is looked for, from this folder, when `RATE_SRC` is not set.
 const SOURCES: [&str; 2] = ["../../../shared/docs/src", "../../docs/src"];
-/// Where the proved code's static libraries are, from this folder, when `EXPORTS_DIR` is not set.
-const EXPORTS: &str = "../../target/staticlib";
+/// Where the proved code's static library is, from this folder, when `EXPORTS_DIR` is not set.
+const EXPORTS: &str = "../../crates/exports/out";
+/// Where that of the calls by value is, when neither `BY_VALUE_DIR` nor `EXPORTS_DIR` is set.
+const BY_VALUE: &str = "../../crates/by_value/out";
 /// The link layer's files within the source.
 const LINK: &str = "core/aether-link/src";
 /// The read-only view of a controller's private state that every copy gets.
@@ -28,9 +30,10 @@ fn main() {
     let frames = data_header(&read(&link.join("frames.rs")));
     write(&out.join("frames.rs"), &frames);
 
-    exports(&here);
+    libraries(&here);
     println!("cargo:rerun-if-env-changed=RATE_SRC");
     println!("cargo:rerun-if-env-changed=EXPORTS_DIR");
+    println!("cargo:rerun-if-env-changed=BY_VALUE_DIR");
     println!("cargo:rerun-if-changed=build.rs");
 }
 
@@ -47,11 +50,20 @@ fn source(here: &Path) -> PathBuf {
 }
 
 /// Tells the linker where the libraries are; only the binaries that name one need it to be there.
-fn exports(here: &Path) {
-    let given = env::var_os("EXPORTS_DIR").unwrap_or_else(|| EXPORTS.into());
-    let folder = here.join(given);
-    println!("cargo:rustc-link-search=native={}", folder.display());
-    println!("cargo:rerun-if-changed={}", folder.display());
+fn libraries(here: &Path) {
+    let exports = env::var_os("EXPORTS_DIR");
+    let by_value = env::var_os("BY_VALUE_DIR").or_else(|| exports.clone());
+    for (folder, name) in [
+        (exports.unwrap_or_else(|| EXPORTS.into()), "libexports.a"),
+        (by_value.unwrap_or_else(|| BY_VALUE.into()), "libby_value.a"),
+    ] {
+        let folder = here.join(folder);
+        println!("cargo:rustc-link-search=native={}", folder.display());
+        let library = folder.join(name);
+        if library.is_file() {
+            println!("cargo:rerun-if-changed={}", library.display());
+        }
+    }
 }
 
 fn read(path: &Path) -> String {

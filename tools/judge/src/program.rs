@@ -6,7 +6,7 @@ use std::path::{Path, PathBuf};
 use std::process::{Command, Stdio};
 
 /// Where the program is when `TRACE` is not set.
-const PLACE: &str = concat!(env!("CARGO_MANIFEST_DIR"), "/../../target/bin/trace");
+const PLACE: &str = concat!(env!("CARGO_MANIFEST_DIR"), "/../../crates/trace/out/trace");
 
 /// What the program answered, and what went wrong with it, if anything.
 pub struct Answered {

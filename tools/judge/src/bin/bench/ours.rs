@@ -1,4 +1,4 @@
-//! The proved code that is measured: two calls of the library, and the two of tools/by-value.
+//! The proved code that is measured: two calls of the library, and the two of crates/by_value.
 
 #[link(name = "exports", kind = "static")]
 unsafe extern "C" {

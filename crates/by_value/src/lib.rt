@@ -1,17 +1,16 @@
 // The calls by value, for tools/bench: what a question file holds, made call by call on a controller that is one value.
 // Proved is that they are safe and end; that the choices are right, the bench sees by holding their sum to the Rust's.
+#![tactic(auto)]
+
 use ladder::types::Rung;
 use question::body::frames_of;
-use question::bytes::past;
-use question::bytes::reading_of;
+use question::bytes::{past, reading_of};
 use question::event::answer_event;
-use question::file::air;
-use question::file::body_at;
-use question::file::event_count;
+use question::file::{air, body_at, event_count};
 use rate::types::RateController;
-use std::num::wrapping_add_u32;
 
 // The sum of the choices so far, and the sum of these sums: in it each choice counts by its place.
+#[derive(Clone, Copy)]
 struct Sums {
     plain: u32,
     placed: u32,
@@ -27,10 +26,10 @@ fn none() -> Sums {
 
 // One choice more.
 fn add(s: Sums, choice: Rung) -> Sums {
-    let plain = wrapping_add_u32(s.plain, choice.0);
+    let plain = s.plain.wrapping_add(choice.0);
     Sums {
         plain,
-        placed: wrapping_add_u32(s.placed, plain),
+        placed: s.placed.wrapping_add(plain),
     }
 }
 
@@ -45,7 +44,7 @@ fn fresh_for(air: u32) -> RateController {
 }
 
 // Each event is a call.
-#[no_mangle]
+#[unsafe(no_mangle)]
 pub extern "C" fn by_value_events(file: &[u8]) -> u32 {
     let mut k = fresh_for(air(file));
     let mut sums = none();
@@ -60,7 +59,7 @@ pub extern "C" fn by_value_events(file: &[u8]) -> u32 {
 }
 
 // Each of the 256 frames of the first event is a call, the same reading with each. They are read before the first call.
-#[no_mangle]
+#[unsafe(no_mangle)]
 pub extern "C" fn by_value_frames(file: &[u8]) -> u32 {
     let body = body_at(file, 0);
     let snr = reading_of(past(body, 1));
