@@ -1,6 +1,5 @@
 -- `body::bursts_of` meets its contract. The invariant: the first i counts stand over the start of an array of none.
 use mathlib.Core.Path.{◌≡◌, sym, ap, ◌∙◌}
-use Prim.Native.Nat.{◌-◌, ◌≤◌}
 use native.Mathlib.Omega.{arith}
 use lib.ListN.{length, take}
 use Rattle.question.specs.Bytes.{le16}
@@ -8,7 +7,7 @@ use Rattle.question.specs.Body.{bursts_in, no_bursts, bursts_of}
 use Rattle.question.specs.Over.{over}
 use borrow.Author.Rules.{rules}
 use Rattle.question.proofs.Bodies.{length_bursts, burst_at_lem, length_no_bursts}
-use Rattle.question.proofs.Over.{Over, over_start, copy_next, copy_end}
+use Rattle.question.proofs.Over.{over_start, copy_next, copy_end}
 use Rattle.question.proofs.body.bursts_of.Goals as goal
 
 pub loop-i-init : goal.loop-i-init

@@ -1,6 +1,5 @@
 -- Each field is the definition's.
 use Rattle.question.specs.Body.{frame_of}
-use borrow.Author.Rules.{rules}
 use Rattle.question.proofs.body.frame_of.Goals as goal
 
 pub returns : goal.returns

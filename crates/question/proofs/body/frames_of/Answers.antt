@@ -1,13 +1,12 @@
 -- `body::frames_of` meets its contract. The invariant: the first i frames stand over the start of an array of none.
 use mathlib.Core.Path.{◌≡◌, sym, ap, ◌∙◌}
-use Prim.Native.Nat.{◌-◌, ◌≤◌}
 use native.Mathlib.Omega.{arith}
 use lib.ListN.{length, take}
 use Rattle.question.specs.Body.{frame_of, frames_in, no_frames, batch_of}
 use Rattle.question.specs.Over.{over}
 use borrow.Author.Rules.{rules}
 use Rattle.question.proofs.Bodies.{length_frames, frame_next, frames_end, length_no_frames}
-use Rattle.question.proofs.Over.{Over, over_start}
+use Rattle.question.proofs.Over.{over_start}
 use Rattle.question.proofs.body.frames_of.Goals as goal
 
 pub loop-i-init : goal.loop-i-init

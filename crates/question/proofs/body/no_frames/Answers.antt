@@ -1,7 +1,6 @@
 -- `body::no_frames` meets its contract.
 use mathlib.Core.Path.{ap}
 use lib.ListN.{replicate}
-use borrow.Author.Rules.{rules}
 use Rattle.question.specs.Body.{no_frames}
 use Rattle.question.proofs.body.no_frames.Goals as goal
 

@@ -1,7 +1,6 @@
 -- The kind decides, and no kind is left after seven.
 use borrow.Author.Tests.{eq-eqb, ne_eqb}
 use Rattle.question.specs.Body.{ok_body}
-use borrow.Author.Rules.{rules}
 use Rattle.question.proofs.body.ok_body.Goals as goal
 
 pub returns-then-kind-eq1 : goal.returns-then-kind-eq1

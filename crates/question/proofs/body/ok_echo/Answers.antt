@@ -1,7 +1,6 @@
 -- `body::ok_echo` meets its contract.
 use borrow.Author.Tests.{eq-eqb, ne_eqb}
 use Rattle.question.specs.Body.{ok_echo}
-use borrow.Author.Rules.{rules}
 use Rattle.question.proofs.body.ok_echo.Goals as goal
 
 pub returns-then-body-eq18 : goal.returns-then-body-eq18

@@ -1,7 +1,6 @@
 -- `body::ok_families` meets its contract.
 use borrow.Author.Tests.{eq-eqb, ne_eqb, le-leb, lt-leb}
 use Rattle.question.specs.Body.{ok_families}
-use borrow.Author.Rules.{rules}
 use Rattle.question.proofs.body.ok_families.Goals as goal
 
 pub returns-then-body-ne3 : goal.returns-then-body-ne3

@@ -1,11 +1,9 @@
 -- `body::ok_flags` meets its contract. The invariant: the frames below i have known flags only.
 use mathlib.Core.Path.{◌∙◌, ap}
-use Prim.Native.Nat.{◌-◌}
 use Rattle.question.specs.Bytes.{byte}
 use Rattle.question.specs.Body.{all_from, ok_flags}
 use Rattle.question.proofs.Bodies.{flags_good, flags_bad}
-use Rattle.question.proofs.Ranges.{Passed, passed_none, passed_next, passed_no, passed_all}
-use borrow.Author.Rules.{rules}
+use Rattle.question.proofs.Ranges.{passed_none, passed_next, passed_no, passed_all}
 use Rattle.question.proofs.body.ok_flags.Goals as goal
 
 pub loop-i-init : goal.loop-i-init

@@ -1,10 +1,6 @@
-use mathlib.Core.Path.{◌∙◌, ap}
 use Prim.Native.Nat.{◌-◌}
-use Rattle.question.specs.Bytes.{byte}
-use Rattle.question.specs.Body.{all_from, ok_flags}
-use Rattle.question.proofs.Bodies.{flags_good, flags_bad}
-use Rattle.question.proofs.Ranges.{Passed, passed_none, passed_next, passed_no, passed_all}
-use borrow.Author.Rules.{rules}
+use Rattle.question.specs.Body.{ok_flags}
+use Rattle.question.proofs.Ranges.{Passed}
 use Rattle.question.proofs.body.ok_flags.Given as goal
 
 abbrev pub invariant-loop-i : goal.invariant-loop-i

@@ -1,7 +1,6 @@
 -- The tests in the definition's order.
 use borrow.Author.Tests.{le-leb, lt-leb, eq-eqb, ne_eqb}
 use Rattle.question.specs.Body.{ok_frames}
-use borrow.Author.Rules.{rules}
 use Rattle.question.proofs.body.ok_frames.Goals as goal
 
 pub returns-then-body-lt10 : goal.returns-then-body-lt10

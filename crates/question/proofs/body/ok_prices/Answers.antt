@@ -1,7 +1,6 @@
 -- `body::ok_prices` meets its contract.
 use borrow.Author.Tests.{lt-leb, le-leb}
 use Rattle.question.specs.Body.{ok_prices}
-use borrow.Author.Rules.{rules}
 use Rattle.question.proofs.body.ok_prices.Goals as goal
 
 pub returns-then-body-lt25 : goal.returns-then-body-lt25

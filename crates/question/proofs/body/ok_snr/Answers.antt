@@ -1,7 +1,6 @@
 -- `body::ok_snr` meets its contract.
 use borrow.Author.Tests.{eq-eqb, ne_eqb}
 use Rattle.question.specs.Body.{ok_snr}
-use borrow.Author.Rules.{rules}
 use Rattle.question.proofs.body.ok_snr.Goals as goal
 
 pub returns-then-body-eq10 : goal.returns-then-body-eq10

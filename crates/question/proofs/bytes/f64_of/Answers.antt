@@ -1,6 +1,5 @@
 -- `bytes::f64_of` meets its contract.
 use Rattle.question.specs.Bytes.{float}
-use borrow.Author.Rules.{rules}
 use Rattle.question.proofs.bytes.f64_of.Goals as goal
 
 pub returns : goal.returns

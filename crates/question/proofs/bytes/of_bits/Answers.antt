@@ -1,7 +1,6 @@
 -- A NaN pattern is the NaN, which 0.0 / 0.0 is.
 use mathlib.Core.Path.{sym, ◌∙◌}
 use Rattle.question.proofs.Nan.{nan_pattern, no_nan_pattern, zero_by_zero}
-use borrow.Author.Rules.{rules}
 use Rattle.question.proofs.bytes.of_bits.Goals as goal
 
 pub float_from_bits-result : goal.float_from_bits-result

@@ -1,7 +1,6 @@
 -- The mark decides, and after the mark 0 the bits.
 use borrow.Author.Tests.{eq-eqb, ne_eqb}
 use Rattle.question.specs.Bytes.{ok_reading}
-use borrow.Author.Rules.{rules}
 use Rattle.question.proofs.bytes.ok_reading.Goals as goal
 
 pub returns-then-mark-eq1 : goal.returns-then-mark-eq1

@@ -1,7 +1,6 @@
 -- The mark decides.
 use borrow.Author.Tests.{eq-eqb, ne_eqb}
 use Rattle.question.specs.Bytes.{reading_of}
-use borrow.Author.Rules.{rules}
 use Rattle.question.proofs.bytes.reading_of.Goals as goal
 
 pub returns-then-byte_at-eq1 : goal.returns-then-byte_at-eq1

@@ -2,7 +2,6 @@
 use native.Mathlib.Omega.{arith}
 use mathlib.Core.Path.{ap}
 use Rattle.question.specs.Bytes.{le32, le64}
-use borrow.Author.Rules.{rules}
 use Rattle.question.proofs.bytes.u64_of.Goals as goal
 
 pub returns : goal.returns

@@ -1,7 +1,6 @@
 -- The kind decides, and past the sixth it is a seed.
 use borrow.Author.Tests.{eq-eqb, ne_eqb}
 use Rattle.question.specs.Body.{call_of}
-use borrow.Author.Rules.{rules}
 use Rattle.question.proofs.event.answer_event.Goals as goal
 
 pub returns-then-kind-eq1 : goal.returns-then-kind-eq1

@@ -1,5 +1,4 @@
 -- `event::echo_event` meets its contract.
-use borrow.Author.Rules.{rules}
 use Rattle.question.proofs.event.echo_event.Goals as goal
 
 pub returns : goal.returns

@@ -3,7 +3,6 @@ use mathlib.Core.Path.{◌≡◌, refl, sym, ap, ◌∙◌}
 use mathlib.Core.List.{List, [], ◌∷◌}
 use Prim.Native.Nat.{ℕ}
 use lib.ListN.{drop}
-use borrow.Author.Rules.{rules}
 use Rattle.rate.specs.Calls.{Frames, step}
 use Rattle.question.specs.Bytes.{reading_of}
 use Rattle.question.specs.Body.{frame_count, frame_of, frame_at, frames_in}

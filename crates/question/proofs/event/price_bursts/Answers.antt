@@ -3,9 +3,6 @@ use mathlib.Core.Path.{◌∙◌}
 use borrow.Author.Tests.{not-true, not-false}
 use Rattle.question.specs.Body.{bursts_in}
 use Rattle.question.proofs.Held.{count_outside, too_many, too_many_outside, prefix_room, prefix_length, bursts_held}
-use borrow.Author.Rules.{rules}
-use Rattle.std.proofs.Common.{ap}
-use Rattle.std.specs.Prelude.{not}
 use Rattle.question.proofs.event.price_bursts.Goals as goal
 
 pub returns-then-not-bursts : goal.returns-then-not-bursts

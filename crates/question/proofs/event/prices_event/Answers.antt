@@ -1,5 +1,4 @@
 -- `event::prices_event` meets its contract.
-use borrow.Author.Rules.{rules}
 use Rattle.question.proofs.event.prices_event.Goals as goal
 
 pub returns : goal.returns

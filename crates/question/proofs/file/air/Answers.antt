@@ -1,5 +1,4 @@
 -- `file::air` meets its contract.
-use borrow.Author.Rules.{rules}
 use Rattle.question.proofs.file.air.Goals as goal
 
 pub returns : goal.returns

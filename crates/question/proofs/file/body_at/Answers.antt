@@ -1,6 +1,5 @@
 -- `file::body_at` meets its contract.
 use Rattle.question.specs.File.{body_at}
-use borrow.Author.Rules.{rules}
 use Rattle.question.proofs.file.body_at.Goals as goal
 
 pub returns : goal.returns

@@ -1,6 +1,5 @@
 -- `file::length_at` meets its contract.
 use Rattle.question.specs.File.{length_at}
-use borrow.Author.Rules.{rules}
 use Rattle.question.proofs.file.length_at.Goals as goal
 
 pub returns : goal.returns

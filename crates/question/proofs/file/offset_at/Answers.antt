@@ -1,6 +1,5 @@
 -- `file::offset_at` meets its contract.
 use Rattle.question.specs.File.{offset_at}
-use borrow.Author.Rules.{rules}
 use Rattle.question.proofs.file.offset_at.Goals as goal
 
 pub returns : goal.returns

@@ -1,7 +1,6 @@
 -- The tests in the definition's order.
 use borrow.Author.Tests.{le-leb, lt-leb}
 use Rattle.question.specs.File.{ok_header}
-use borrow.Author.Rules.{rules}
 use Rattle.question.proofs.file.ok_header.Goals as goal
 
 pub returns-then-file-lt8 : goal.returns-then-file-lt8

@@ -1,7 +1,5 @@
-use mathlib.Core.Path.{refl, sym, ◌∙◌}
 use Prim.Native.Nat.{◌-◌}
-use Rattle.question.proofs.Pairs.{Chained, chain_start, chain_past, chain_on, chain_off, chain_end}
-use borrow.Author.Rules.{rules}
+use Rattle.question.proofs.Pairs.{Chained}
 use Rattle.question.proofs.file.ok_pairs.Given as goal
 
 abbrev pub invariant-loop-i : goal.invariant-loop-i

@@ -1,7 +1,6 @@
 -- The tests in the definition's order.
 use borrow.Author.Tests.{not-true, not-false}
 use Rattle.question.specs.File.{file_verdict}
-use borrow.Author.Rules.{rules}
 use Rattle.std.proofs.Common.{ap}
 use Rattle.std.specs.Prelude.{not}
 use Rattle.question.proofs.verdict.file_verdict.Goals as goal

@@ -1,10 +1,10 @@
 -- `verdict::ok_bodies` meets its contract. The invariant: the bodies below i have their kinds' forms.
 use mathlib.Core.Path.{◌≡◌, sym, ap, ◌∙◌}
-use Prim.Native.Nat.{◌-◌, ◌<◌}
+use Prim.Native.Nat.{◌<◌}
 use Rattle.question.specs.Body.{ok_body}
 use Rattle.question.specs.File.{event_count, ok_body_at, ok_bodies}
 use borrow.Author.Rules.{rules}
-use Rattle.question.proofs.Ranges.{Passed, passed_none, passed_next, passed_no, passed_all}
+use Rattle.question.proofs.Ranges.{passed_none, passed_next, passed_no, passed_all}
 use Rattle.question.proofs.Events.{before_end, past_end}
 use Rattle.question.proofs.verdict.ok_bodies.Goals as goal
 
