@@ -1,6 +1,7 @@
 // Document 01's section "Question file, sheet, marking", but for the question file, which is crate `question`: one run of a file's events through a
 // controller, the sheet that is printed from their outcomes, and the marking of answers by them.
 #![tactic(auto)]
+
 mod frames;
 mod lines;
 pub mod mark;

@@ -1,13 +1,11 @@
 -- The invariant: with the frames from the i-th on, the accounts and the pass come to what they came to from the start, and the factors are those of the air `faded`.
-use Rattle.std.specs.Prelude.{◌≡◌, ◌-◌, length}
+use Rattle.std.specs.Prelude.{◌≡◌}
 use mathlib.Core.Path.{refl, ap, ◌∙◌}
-use native.Mathlib.Omega.{arith}
 use borrow.Author.Rules.{rules}
-use Rattle.rules.specs.Booking.{book}
 use Rattle.steps.specs.bridges.Held.{rows_in, front_in, laid, accounts_of}
-use Rattle.steps.specs.bridges.Pass.{Kept, begin_pass, pass_step, pass_all}
+use Rattle.steps.specs.bridges.Pass.{begin_pass, pass_step}
 use Rattle.question.specs.Body.{frame_bytes, frame_of}
-use Rattle.paper.proofs.FrameWalk.{frames_from, fold_next, fold_end, book_next, book_end}
+use Rattle.paper.proofs.FrameWalk.{fold_next, fold_end, book_next, book_end}
 use Rattle.paper.proofs.frames.book_body.Goals as goal
 
 pub loop-i-init : goal.loop-i-init

@@ -1,12 +1,8 @@
 use Rattle.std.specs.Prelude.{◌≡◌, ◌-◌, length}
-use mathlib.Core.Path.{refl, ap, ◌∙◌}
-use native.Mathlib.Omega.{arith}
-use borrow.Author.Rules.{rules}
 use Rattle.rules.specs.Booking.{book}
-use Rattle.steps.specs.bridges.Held.{rows_in, front_in, laid, accounts_of}
-use Rattle.steps.specs.bridges.Pass.{Kept, begin_pass, pass_step, pass_all}
-use Rattle.question.specs.Body.{frame_bytes, frame_of}
-use Rattle.paper.proofs.FrameWalk.{frames_from, fold_next, fold_end, book_next, book_end}
+use Rattle.steps.specs.bridges.Held.{laid, accounts_of}
+use Rattle.steps.specs.bridges.Pass.{Kept, pass_all}
+use Rattle.paper.proofs.FrameWalk.{frames_from}
 use Rattle.paper.proofs.frames.book_body.Given as goal
 
 abbrev pub invariant-loop-i : goal.invariant-loop-i

@@ -1,10 +1,8 @@
 -- The invariant: with the frames from the i-th on, the check comes to what it came to from the start.
-use Rattle.std.specs.Prelude.{◌≡◌, ◌-◌}
 use mathlib.Core.Path.{refl, ap, ◌∙◌}
-use borrow.Author.Rules.{rules}
-use Rattle.rules.specs.bridges.Check.{begin_check, check_step, check_all}
+use Rattle.rules.specs.bridges.Check.{begin_check, check_step}
 use Rattle.question.specs.Body.{frame_of}
-use Rattle.paper.proofs.FrameWalk.{frames_from, fold_next, fold_end}
+use Rattle.paper.proofs.FrameWalk.{fold_next, fold_end}
 use Rattle.paper.proofs.frames.check_body.Goals as goal
 
 pub loop-i-init : goal.loop-i-init

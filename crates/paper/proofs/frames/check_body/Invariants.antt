@@ -1,9 +1,6 @@
 use Rattle.std.specs.Prelude.{◌≡◌, ◌-◌}
-use mathlib.Core.Path.{refl, ap, ◌∙◌}
-use borrow.Author.Rules.{rules}
-use Rattle.rules.specs.bridges.Check.{begin_check, check_step, check_all}
-use Rattle.question.specs.Body.{frame_of}
-use Rattle.paper.proofs.FrameWalk.{frames_from, fold_next, fold_end}
+use Rattle.rules.specs.bridges.Check.{check_all}
+use Rattle.paper.proofs.FrameWalk.{frames_from}
 use Rattle.paper.proofs.frames.check_body.Given as goal
 
 abbrev pub invariant-loop-i : goal.invariant-loop-i

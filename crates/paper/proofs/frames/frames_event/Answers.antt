@@ -1,7 +1,6 @@
 -- The check's verdict is the call's, and what an accepted or a refused call leaves is what `step` says.
 use Rattle.std.specs.Prelude.{◌≡◌, drop}
 use mathlib.Core.Path.{ap, ◌∙◌}
-use borrow.Author.Rules.{rules}
 use Rattle.rate.specs.Calls.{Frames, verdict}
 use Rattle.rate.proofs.Transmitted.{frames_verdict_lem, accepted_step, refused_step}
 use Rattle.question.specs.Bytes.{reading_of}

@@ -3,7 +3,6 @@ use Rattle.std.specs.Prelude.{◌/◌, ◌%◌}
 use native.Mathlib.Omega.{arith}
 use borrow.Author.Tests.{eq-eqb, ne_eqb}
 use Rattle.paper.proofs.Pieces.{refused_row, answered_row}
-use borrow.Author.Rules.{rules}
 use Rattle.paper.proofs.lines.line_length.Goals as goal
 
 pub returns-then-o-eq1 : goal.returns-then-o-eq1

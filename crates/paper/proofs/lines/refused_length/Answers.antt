@@ -1,7 +1,6 @@
 -- The word and two bytes are nine.
 use native.Mathlib.Omega.{arith}
 use Rattle.paper.proofs.Pieces.{refused_length}
-use borrow.Author.Rules.{rules}
 use Rattle.paper.proofs.lines.refused_length.Goals as goal
 
 pub returns : goal.returns

@@ -3,7 +3,6 @@ use mathlib.Core.Path.{refl}
 use Rattle.std.specs.Prelude.{◌/◌, ◌%◌}
 use native.Mathlib.Omega.{arith}
 use borrow.Author.Tests.{eq-eqb, ne_eqb}
-use borrow.Author.Rules.{rules}
 use Rattle.paper.proofs.lines.tried_length.Goals as goal
 
 pub returns-then-o-eq1 : goal.returns-then-o-eq1

@@ -5,7 +5,6 @@ use Rattle.std.specs.Prelude.{length}
 use lib.ListN.{length-set}
 use Rattle.paper.proofs.Pieces.{flags_row}
 use Rattle.paper.proofs.Stored.{six_stored}
-use borrow.Author.Rules.{rules}
 use Rattle.paper.proofs.lines.write_flags.Goals as goal
 
 pub bounds-out-0 : goal.bounds-out-0

@@ -1,7 +1,6 @@
 -- The mark decides.
 use Rattle.std.specs.Prelude.{◌/◌, ◌%◌}
 use borrow.Author.Tests.{eq-eqb, ne_eqb}
-use borrow.Author.Rules.{rules}
 use Rattle.paper.proofs.lines.write_line.Goals as goal
 
 pub write_turned_away-requires : goal.write_turned_away-requires

@@ -2,11 +2,10 @@
 use mathlib.Core.Path.{refl}
 use Rattle.std.specs.Prelude.{◌/◌, ◌%◌}
 use native.Mathlib.Omega.{arith}
-use borrow.Author.Tests.{eq-eqb, ne_eqb}
+use borrow.Author.Tests.{ne_eqb}
 use lib.ListN.{length-set}
 use Rattle.paper.specs.Lines.{ended}
 use Rattle.paper.proofs.Stored.{two_stored}
-use borrow.Author.Rules.{rules}
 use Rattle.paper.proofs.lines.write_tried.Goals as goal
 
 pub bounds-out-0 : goal.bounds-out-0

@@ -5,7 +5,6 @@ use Rattle.std.specs.Prelude.{length}
 use Rattle.question.specs.File.{event_count}
 use Rattle.paper.specs.Sheet.{mark_verdict, mark_answer}
 use Rattle.question.proofs.Events.{few_events}
-use borrow.Author.Rules.{rules}
 use Rattle.paper.proofs.mark.mark.Goals as goal
 
 pub run_score-requires : goal.run_score-requires

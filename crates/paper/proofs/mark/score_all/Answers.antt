@@ -1,10 +1,9 @@
 -- `mark::score_all` meets its contract. The invariant: the score so far, with the answers from the i-th on, is the file's.
-use Rattle.std.specs.Prelude.{◌≡◌, ◌-◌, ◌<◌, ◌≤◌, get_or, drop}
+use Rattle.std.specs.Prelude.{◌<◌, get_or}
 use mathlib.Core.Path.{sym, ◌∙◌}
 use native.Mathlib.Omega.{arith}
 use Rattle.question.specs.File.{event_count}
-use Rattle.paper.specs.Sheet.{score_of}
-use Rattle.paper.specs.bridges.Said.{said, score_lines}
+use Rattle.paper.specs.bridges.Said.{said}
 use Rattle.paper.proofs.Said.{line_at, score_text, said_length, score_next, score_end, scored_most}
 use Rattle.paper.proofs.Outcomes.{log_room, outcome_score}
 use borrow.Author.Rules.{rules}

@@ -1,12 +1,6 @@
-use Rattle.std.specs.Prelude.{◌≡◌, ◌-◌, ◌<◌, ◌≤◌, get_or, drop}
-use mathlib.Core.Path.{sym, ◌∙◌}
-use native.Mathlib.Omega.{arith}
-use Rattle.question.specs.File.{event_count}
+use Rattle.std.specs.Prelude.{◌≡◌, ◌-◌, ◌≤◌, drop}
 use Rattle.paper.specs.Sheet.{score_of}
 use Rattle.paper.specs.bridges.Said.{said, score_lines}
-use Rattle.paper.proofs.Said.{line_at, score_text, said_length, score_next, score_end, scored_most}
-use Rattle.paper.proofs.Outcomes.{log_room, outcome_score}
-use borrow.Author.Rules.{rules}
 use Rattle.paper.proofs.mark.score_all.Given as goal
 
 abbrev pub invariant-loop-i : goal.invariant-loop-i

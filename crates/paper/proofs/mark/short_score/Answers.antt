@@ -1,6 +1,5 @@
 -- By what the run leaves.
 use Rattle.paper.proofs.Outcomes.{logged}
-use borrow.Author.Rules.{rules}
 use Rattle.paper.proofs.mark.short_score.Goals as goal
 
 pub score_all-requires : goal.score_all-requires

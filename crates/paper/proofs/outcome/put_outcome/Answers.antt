@@ -1,5 +1,4 @@
 -- Three stores are the three numbers over the start.
-use lib.ListN.{length-set}
 use Rattle.paper.proofs.Stored.{three_stored}
 use borrow.Author.Rules.{rules}
 use Rattle.paper.proofs.outcome.put_outcome.Goals as goal

@@ -8,7 +8,6 @@ use Rattle.question.specs.Body.{call_of}
 use Rattle.rate.specs.bridges.Playing.{playing}
 use Rattle.steps.specs.bridges.Held.{laid}
 use Rattle.paper.proofs.Light.{call_seed, priced_moves}
-use borrow.Author.Rules.{rules}
 use Rattle.paper.proofs.player.light_event.Goals as goal
 
 pub returns-then-kind-eq2 : goal.returns-then-kind-eq2

@@ -5,7 +5,6 @@ use borrow.Author.Tests.{eq-eqb, ne_eqb}
 use Rattle.question.specs.Body.{kind}
 use Rattle.steps.specs.bridges.Held.{laid}
 use Rattle.paper.proofs.Light.{call_frames, light_moves, light_keeps}
-use borrow.Author.Rules.{rules}
 use Rattle.paper.proofs.player.play_event.Goals as goal
 
 pub returns-then-byte_at-eq1 : goal.returns-then-byte_at-eq1

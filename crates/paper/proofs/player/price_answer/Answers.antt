@@ -1,7 +1,6 @@
 -- The call is that of the body's kind.
 use mathlib.Core.Path.{refl, sym, ◌∙◌}
 use Rattle.paper.proofs.Light.{call_families, call_prices}
-use borrow.Author.Rules.{rules}
 use Rattle.paper.proofs.player.price_answer.Goals as goal
 
 pub returns-then-byte_at-eq5 : goal.returns-then-byte_at-eq5

@@ -2,7 +2,6 @@
 use mathlib.Core.Path.{refl}
 use Rattle.std.specs.Prelude.{[]}
 use Rattle.paper.proofs.Light.{priced_moves}
-use borrow.Author.Rules.{rules}
 use Rattle.paper.proofs.player.price_event.Goals as goal
 
 pub returns : goal.returns

@@ -1,7 +1,6 @@
 -- An event of another kind keeps the prices.
-use mathlib.Core.Path.{refl, sym, ◌∙◌}
+use mathlib.Core.Path.{sym, ◌∙◌}
 use Rattle.paper.proofs.Light.{keeps_prices}
-use borrow.Author.Rules.{rules}
 use Rattle.paper.proofs.player.prices_after.Goals as goal
 
 pub returns : goal.returns

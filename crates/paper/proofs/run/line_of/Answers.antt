@@ -1,6 +1,5 @@
 -- The verdict decides.
 use Rattle.paper.specs.Sheet.{line_of}
-use borrow.Author.Rules.{rules}
 use Rattle.paper.proofs.run.line_of.Goals as goal
 
 pub returns-in-Accepted : goal.returns-in-Accepted

@@ -1,19 +1,15 @@
 -- `run::run` meets its contract. The invariant: the arrays and what else the loop keeps are the controller that the events below the i-th leave, their outcomes
 use borrow.Author.Rules.{rules}
-use Rattle.std.specs.Prelude.{◌≡◌, ℕ, ◌-◌, ◌*◌, ◌<◌, ◌≤◌, List, length, replicate}
+use Rattle.std.specs.Prelude.{◌≡◌, ℕ, ◌<◌, List, length, replicate}
 use mathlib.Core.Path.{refl, sym, ◌∙◌}
 use native.Mathlib.Omega.{arith}
 use Rattle.float.specs.Numbers.{f0}
 use Rattle.steps.specs.bridges.Held.{Lent, laid}
-use Rattle.rate.specs.bridges.Playing.{playing}
-use Rattle.steps.specs.bridges.Pass.{Kept}
 use Rattle.question.specs.File.{event_count}
-use Rattle.question.proofs.Over.{Partly, partly_start, partly_within, partly_lent, partly_next, partly_end}
+use Rattle.question.proofs.Over.{partly_start, partly_within, partly_lent, partly_next, partly_end}
 use Rattle.question.proofs.Events.{before_end, past_end}
 use Rattle.paper.proofs.Playing.{first_playing}
-use Rattle.paper.specs.bridges.Said.{said_from, said}
-use Rattle.paper.specs.bridges.Outcomes.{outcomes_of}
-use Rattle.paper.proofs.Running.{calls_from, none_kept, outcomes_start, outcomes_end, next_outcome}
+use Rattle.paper.proofs.Running.{none_kept, outcomes_start, outcomes_end, next_outcome}
 use Rattle.paper.proofs.run.run.Goals as goal
 
 stays : {A : Type 0} (xs ys : List A) (n : ℕ) → length xs ≡ length ys → length ys ≡ n → length xs ≡ n

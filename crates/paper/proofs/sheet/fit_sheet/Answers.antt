@@ -5,7 +5,6 @@ use borrow.Author.Tests.{le-leb, lt-leb}
 use Rattle.std.specs.Prelude.{length}
 use Rattle.paper.specs.Sheet.{sheet_of}
 use Rattle.paper.specs.declared.types.Sheet.TheVariants.{Written}
-use borrow.Author.Rules.{rules}
 use Rattle.paper.proofs.sheet.fit_sheet.Goals as goal
 
 pub returns-then-measure_lines-out : goal.returns-then-measure_lines-out

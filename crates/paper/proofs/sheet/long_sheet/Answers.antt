@@ -1,6 +1,5 @@
 -- By what the run leaves.
 use Rattle.paper.proofs.Outcomes.{logged}
-use borrow.Author.Rules.{rules}
 use Rattle.paper.proofs.sheet.long_sheet.Goals as goal
 
 pub fit_sheet-requires : goal.fit_sheet-requires

@@ -1,10 +1,9 @@
 -- `sheet::measure_lines` meets its contract. The invariant: what is counted and the lines from the i-th event on are as long as the sheet.
-use Rattle.std.specs.Prelude.{◌≡◌, ◌+◌, ◌-◌, ◌*◌, ◌≤◌, length, drop}
+use Rattle.std.specs.Prelude.{◌+◌, length}
 use mathlib.Core.Path.{ap}
 use native.Mathlib.Omega.{arith}
 use Rattle.question.proofs.Over.{next_length}
-use Rattle.paper.specs.Sheet.{sheet_of}
-use Rattle.paper.specs.bridges.Said.{said, text_from}
+use Rattle.paper.specs.bridges.Said.{said}
 use Rattle.paper.proofs.Said.{sheet_text, said_length, text_end}
 use Rattle.paper.proofs.Outcomes.{log_room, outcome_text}
 use borrow.Author.Rules.{rules}

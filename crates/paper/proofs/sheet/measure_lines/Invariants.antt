@@ -1,12 +1,6 @@
 use Rattle.std.specs.Prelude.{◌≡◌, ◌+◌, ◌-◌, ◌*◌, ◌≤◌, length, drop}
-use mathlib.Core.Path.{ap}
-use native.Mathlib.Omega.{arith}
-use Rattle.question.proofs.Over.{next_length}
 use Rattle.paper.specs.Sheet.{sheet_of}
 use Rattle.paper.specs.bridges.Said.{said, text_from}
-use Rattle.paper.proofs.Said.{sheet_text, said_length, text_end}
-use Rattle.paper.proofs.Outcomes.{log_room, outcome_text}
-use borrow.Author.Rules.{rules}
 use Rattle.paper.proofs.sheet.measure_lines.Given as goal
 
 abbrev pub invariant-loop-i : goal.invariant-loop-i

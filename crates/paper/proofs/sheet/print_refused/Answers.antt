@@ -5,7 +5,6 @@ use borrow.Author.Tests.{le-leb, lt-leb}
 use Rattle.std.specs.Prelude.{length}
 use Rattle.question.specs.Over.{over}
 use Rattle.paper.specs.Sheet.{refused_bytes, fitting}
-use borrow.Author.Rules.{rules}
 use Rattle.paper.proofs.sheet.print_refused.Goals as goal
 
 pub returns-then-refused_length-out : goal.returns-then-refused_length-out

@@ -1,7 +1,6 @@
 -- What the sheet call left and answered decides.
 use mathlib.Core.Path.{sym, ◌∙◌}
 use Rattle.paper.proofs.Printed.{printed_sheet, printed_refused}
-use borrow.Author.Rules.{rules}
 use Rattle.paper.proofs.sheet.print_sheet.Goals as goal
 
 pub returns-in-Written : goal.returns-in-Written

@@ -2,7 +2,6 @@
 use mathlib.Core.Path.{refl, sym, ◌∙◌}
 use Rattle.paper.specs.Sheet.{sheet_verdict, sheet_answer, sheet_left}
 use Rattle.question.proofs.Events.{few_events}
-use borrow.Author.Rules.{rules}
 use Rattle.paper.proofs.sheet.sheet.Goals as goal
 
 pub run_sheet-requires : goal.run_sheet-requires

@@ -1,10 +1,9 @@
 -- The invariant: the lines of the events below the i-th stand over the start of the slice, and the others, which have room, are left.
-use Rattle.std.specs.Prelude.{◌≡◌, ◌+◌, ◌*◌, ◌<◌, ◌≤◌, ℕ, List, drop}
+use Rattle.std.specs.Prelude.{◌≡◌, ◌+◌, ◌*◌, ◌<◌, ℕ, List, drop}
 use Rattle.question.specs.File.{event_count}
 use native.Mathlib.Omega.{arith}
-use Rattle.question.proofs.Over.{Next, Partly, partly_start, partly_within, partly_next, partly_end, piece_fits, piece_room}
+use Rattle.question.proofs.Over.{Next, partly_start, partly_within, partly_next, partly_end, piece_fits, piece_room}
 use Rattle.paper.specs.Lines.{row_of}
-use Rattle.paper.specs.Sheet.{sheet_of}
 use Rattle.paper.specs.bridges.Said.{said, text_from}
 use Rattle.paper.specs.bridges.Outcomes.{Outcome, Logged, cells_by, outcome_at}
 use Rattle.paper.proofs.Said.{sheet_text, said_length, text_end}

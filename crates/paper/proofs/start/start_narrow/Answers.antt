@@ -1,7 +1,6 @@
 -- The air's table is accepted.
 use mathlib.Core.Path.{refl}
 use Rattle.paper.proofs.Starting.{narrow_made}
-use borrow.Author.Rules.{rules}
 use Rattle.paper.proofs.start.start_narrow.Goals as goal
 
 pub returns : goal.returns

@@ -1,7 +1,6 @@
 -- The air's table is accepted.
 use mathlib.Core.Path.{refl}
 use Rattle.paper.proofs.Starting.{wide_made}
-use borrow.Author.Rules.{rules}
 use Rattle.paper.proofs.start.start_wide.Goals as goal
 
 pub returns : goal.returns

@@ -1,7 +1,6 @@
 -- The air's number decides.
 use borrow.Author.Tests.{eq-eqb, ne_eqb}
 use Rattle.paper.specs.Sheet.{fresh_for}
-use borrow.Author.Rules.{rules}
 use Rattle.paper.proofs.start.table_of.Goals as goal
 
 pub returns-then-air-eq1 : goal.returns-then-air-eq1

@@ -1,5 +1,5 @@
 -- It recurs as the digits do, and the last digit goes after those of the tenth.
-use Rattle.std.proofs.Common.{◌≡◌, ℕ, ◌<◌, ◌/◌, length, refl, sym, ap, arith}
+use Rattle.std.proofs.Common.{◌≡◌, ◌<◌, ◌/◌, length, refl, sym, ap, arith}
 use Rattle.paper.specs.Lines.{decimal}
 use Rattle.paper.proofs.Decimal.{decimal_one, decimal_more, length_more}
 use Rattle.question.proofs.Over.{Over, over_start, put}

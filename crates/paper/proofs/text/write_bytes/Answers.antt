@@ -1,11 +1,10 @@
 -- `text::write_bytes` meets its contract. The invariant: the first i bytes stand over the start of what was there.
 use mathlib.Core.Path.{refl, ap, ◌∙◌}
-use Rattle.std.specs.Prelude.{◌-◌, ◌≤◌, length, take}
 use native.Mathlib.Omega.{arith}
 use borrow.Author.Rules.{rules}
 use lib.Seq.{take_all}
 use Rattle.question.specs.Over.{over}
-use Rattle.question.proofs.Over.{Over, over_len, over_start, copy_next}
+use Rattle.question.proofs.Over.{over_len, over_start, copy_next}
 use Rattle.paper.proofs.text.write_bytes.Goals as goal
 
 pub loop-i-init : goal.loop-i-init

@@ -1,10 +1,5 @@
-use mathlib.Core.Path.{refl, ap, ◌∙◌}
 use Rattle.std.specs.Prelude.{◌-◌, ◌≤◌, length, take}
-use native.Mathlib.Omega.{arith}
-use borrow.Author.Rules.{rules}
-use lib.Seq.{take_all}
-use Rattle.question.specs.Over.{over}
-use Rattle.question.proofs.Over.{Over, over_len, over_start, copy_next}
+use Rattle.question.proofs.Over.{Over}
 use Rattle.paper.proofs.text.write_bytes.Given as goal
 
 abbrev pub invariant-loop-i : goal.invariant-loop-i

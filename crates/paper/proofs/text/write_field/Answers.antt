@@ -1,7 +1,7 @@
 -- The byte that ends the field goes after the digits.
-use Rattle.std.proofs.Common.{ap, ◌∙◌, ◌<◌, ℕ, length, arith}
+use Rattle.std.proofs.Common.{ap, ◌∙◌, ◌<◌, length, arith}
 use Rattle.question.specs.Over.{over}
-use Rattle.question.proofs.Over.{Over, over_len, put}
+use Rattle.question.proofs.Over.{Over, put}
 use Rattle.paper.specs.Lines.{Number, decimal}
 use Rattle.paper.proofs.Pieces.{ended_length, ended_is}
 use Rattle.paper.proofs.text.write_field.Goals as goal

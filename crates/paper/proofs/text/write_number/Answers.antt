@@ -6,7 +6,6 @@ use lib.ListN.{length-set}
 use Rattle.question.proofs.Over.{over_start, put}
 use Rattle.paper.proofs.Decimal.{decimal_one, decimal_two, decimal_three}
 use Rattle.paper.proofs.Stored.{two_stored, three_stored}
-use borrow.Author.Rules.{rules}
 use Rattle.paper.proofs.text.write_number.Goals as goal
 
 pub bounds-out-0 : goal.bounds-out-0
