@@ -4,6 +4,5 @@ use Rattle.steps.proofs.frames.finish_core.Goals as goal
 
 pub returns : goal.returns
 returns c =
-    let a = c.args in
     let r = c.rung_in-here in
     rw (c.clean_mark-clean.ensures, c.judge_family-failed.ensures, ← r.ensures) refl
