@@ -1,5 +1,5 @@
 -- What `rate_usable_modes` and `rate_table_refusal` return, what the first leaves behind its pointer, and how the echo column is handed over. Definitions only.
-use Rattle.std.specs.Prelude.{Bool, ◌&&◌, not, cond, List, ℕ, min, ltb, eqb, ℤ, pos, Float, length, get_or}
+use Rattle.std.specs.Prelude.{◌&&◌, not, cond, List, ℕ, min, ltb, eqb, ℤ, pos, Float, length, get_or}
 use Rattle.std.specs.Float.{nan}
 use Rattle.limits.specs.declared.refusal.Verdict.{Verdict}
 use Rattle.limits.specs.declared.refusal.Verdict.TheVariants.{Accepted, Refused}
@@ -7,7 +7,6 @@ use Rattle.ladder.specs.declared.types.Rung.{Rung}
 use Rattle.ladder.specs.declared.types.Front.{Front}
 use Rattle.limits.specs.declared.reading.Reading.{Reading}
 use Rattle.limits.specs.declared.reading.Reading.TheVariants.{Missing, Value}
-use Rattle.ladder.specs.declared.front.Usable.{Usable}
 use Rattle.ladder.specs.Lists.{tabulate}
 use Rattle.ladder.specs.Types.{rung}
 use Rattle.exports.specs.Status.{minus_number}
