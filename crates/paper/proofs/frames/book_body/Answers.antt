@@ -1,4 +1,5 @@
--- The invariant: with the frames from the i-th on, the accounts and the pass come to what they came to from the start, and the factors are those of the air `faded`.
+-- The invariant: with the frames from the i-th on, the accounts and the pass come to what they came to from the start, and the factors are those of the air
+-- `faded`.
 use Rattle.std.specs.Prelude.{◌≡◌}
 use mathlib.Core.Path.{refl, ap, ◌∙◌}
 use borrow.Author.Rules.{rules}

@@ -1,4 +1,4 @@
--- Four pieces: the event, the choice, the tried rung, the flags. After each of them the slice is the part of the line written so far.
+-- Each field goes after those before it.
 use Rattle.std.proofs.Common.{◌≡◌, ◌≤◌, ◌+◌, ◌-◌, ◌/◌, ℕ, List, [], ◌∷◌, length, take, drop, arith}
 use borrow.Rule.Slice.PartMut.{put_mid}
 use Rattle.question.specs.Over.{over}

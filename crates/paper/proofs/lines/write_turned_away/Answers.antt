@@ -1,4 +1,4 @@
--- The event, then the word and the number of the refusal.
+-- The event, then `refused` and the number.
 use Rattle.std.proofs.Common.{◌≡◌, ◌≤◌, ℕ, List, [], ◌∷◌, length, arith}
 use Rattle.question.specs.Over.{over}
 use Rattle.question.proofs.Over.{Next, Partly, next_length, partly_first, partly_within, partly_total, partly_last, last_room}

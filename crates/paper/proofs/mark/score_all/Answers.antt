@@ -1,4 +1,4 @@
--- `mark::score_all` meets its contract. The invariant: the score so far, with the answers from the i-th on, is the file's.
+-- The invariant: the score so far, with the answers from the i-th on, is the file's.
 use Rattle.std.specs.Prelude.{◌<◌, get_or}
 use mathlib.Core.Path.{sym, ◌∙◌}
 use native.Mathlib.Omega.{arith}

@@ -1,4 +1,5 @@
--- `run::run` meets its contract. The invariant: the arrays and what else the loop keeps are the controller that the events below the i-th leave, their outcomes
+-- The invariant: the arrays and what else the loop keeps are the controller that the events below the i-th leave, their outcomes stand over the start of the
+-- slice, and the others are left.
 use borrow.Author.Rules.{rules}
 use Rattle.std.specs.Prelude.{◌≡◌, ℕ, ◌<◌, List, length, replicate}
 use mathlib.Core.Path.{refl, sym, ◌∙◌}

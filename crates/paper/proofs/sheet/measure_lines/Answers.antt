@@ -1,4 +1,4 @@
--- `sheet::measure_lines` meets its contract. The invariant: what is counted and the lines from the i-th event on are as long as the sheet.
+-- The invariant: what is counted and the lines from the i-th event on are as long as the sheet.
 use Rattle.std.specs.Prelude.{◌+◌, length}
 use mathlib.Core.Path.{ap}
 use native.Mathlib.Omega.{arith}

@@ -1,4 +1,4 @@
--- `text::write_bytes` meets its contract. The invariant: the first i bytes stand over the start of what was there.
+-- The invariant: the first i bytes stand over the start of what was there.
 use mathlib.Core.Path.{refl, ap, ◌∙◌}
 use native.Mathlib.Omega.{arith}
 use borrow.Author.Rules.{rules}

@@ -1,4 +1,4 @@
--- The byte that ends the field goes after the digits.
+-- One byte goes after the number.
 use Rattle.std.proofs.Common.{ap, ◌∙◌, ◌<◌, length, arith}
 use Rattle.question.specs.Over.{over}
 use Rattle.question.proofs.Over.{Over, put}

@@ -1,4 +1,4 @@
--- `body::frames_of` meets its contract. The invariant: the first i frames stand over the start of an array of none.
+-- The invariant: the first i frames stand over the start of an array of none.
 use mathlib.Core.Path.{◌≡◌, sym, ap, ◌∙◌}
 use native.Mathlib.Omega.{arith}
 use lib.ListN.{length, take}

@@ -1,4 +1,3 @@
--- `body::no_bursts` meets its contract.
 use mathlib.Core.Path.{refl}
 use Rattle.question.specs.Body.{no_bursts}
 use Rattle.question.proofs.body.no_bursts.Goals as goal

@@ -1,4 +1,3 @@
--- `body::no_frames` meets its contract.
 use mathlib.Core.Path.{ap}
 use lib.ListN.{replicate}
 use Rattle.question.specs.Body.{no_frames}

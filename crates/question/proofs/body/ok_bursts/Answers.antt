@@ -1,4 +1,4 @@
--- `body::ok_bursts` meets its contract. The invariant: the counts below i are within their limit.
+-- The invariant: the counts below i are within their limit.
 use mathlib.Core.Path.{◌∙◌, ap, sym}
 use Rattle.question.specs.Bytes.{le16}
 use Rattle.question.specs.Body.{all_from}

@@ -1,4 +1,3 @@
--- `body::ok_echo` meets its contract.
 use borrow.Author.Tests.{eq-eqb, ne_eqb}
 use Rattle.question.specs.Body.{ok_echo}
 use Rattle.question.proofs.body.ok_echo.Goals as goal

@@ -1,4 +1,3 @@
--- `body::ok_families` meets its contract.
 use borrow.Author.Tests.{eq-eqb, ne_eqb, le-leb, lt-leb}
 use Rattle.question.specs.Body.{ok_families}
 use Rattle.question.proofs.body.ok_families.Goals as goal

@@ -1,4 +1,4 @@
--- `body::ok_flags` meets its contract. The invariant: the frames below i have known flags only.
+-- The invariant: the frames below i have known flags only.
 use mathlib.Core.Path.{◌∙◌, ap}
 use Rattle.question.specs.Bytes.{byte}
 use Rattle.question.specs.Body.{all_from, ok_flags}

@@ -1,4 +1,3 @@
--- `body::ok_prices` meets its contract.
 use borrow.Author.Tests.{lt-leb, le-leb}
 use Rattle.question.specs.Body.{ok_prices}
 use Rattle.question.proofs.body.ok_prices.Goals as goal

@@ -1,4 +1,3 @@
--- `body::ok_snr` meets its contract.
 use borrow.Author.Tests.{eq-eqb, ne_eqb}
 use Rattle.question.specs.Body.{ok_snr}
 use Rattle.question.proofs.body.ok_snr.Goals as goal

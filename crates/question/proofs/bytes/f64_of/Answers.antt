@@ -1,4 +1,3 @@
--- `bytes::f64_of` meets its contract.
 use Rattle.question.specs.Bytes.{float}
 use Rattle.question.proofs.bytes.f64_of.Goals as goal
 

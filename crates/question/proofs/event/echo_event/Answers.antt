@@ -1,4 +1,3 @@
--- `event::echo_event` meets its contract.
 use Rattle.question.proofs.event.echo_event.Goals as goal
 
 pub returns : goal.returns

@@ -1,4 +1,3 @@
--- `event::prices_event` meets its contract.
 use Rattle.question.proofs.event.prices_event.Goals as goal
 
 pub returns : goal.returns

@@ -1,4 +1,3 @@
--- `event::seed_event` meets its contract.
 use Rattle.question.proofs.event.seed_event.Goals as goal
 
 pub returns : goal.returns

@@ -1,4 +1,3 @@
--- `event::silence_event` meets its contract.
 use Rattle.question.proofs.event.silence_event.Goals as goal
 
 pub returns : goal.returns

@@ -1,4 +1,3 @@
--- `event::snr_event` meets its contract.
 use Rattle.question.proofs.event.snr_event.Goals as goal
 
 pub returns : goal.returns

@@ -1,4 +1,3 @@
--- `file::air` meets its contract.
 use Rattle.question.proofs.file.air.Goals as goal
 
 pub returns : goal.returns

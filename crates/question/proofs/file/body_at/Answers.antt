@@ -1,4 +1,3 @@
--- `file::body_at` meets its contract.
 use Rattle.question.specs.File.{body_at}
 use Rattle.question.proofs.file.body_at.Goals as goal
 

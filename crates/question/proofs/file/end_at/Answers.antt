@@ -1,4 +1,3 @@
--- `file::end_at` meets its contract.
 use mathlib.Core.Path.{refl}
 use borrow.Author.Rules.{rules}
 use Rattle.question.proofs.file.end_at.Goals as goal

@@ -1,4 +1,3 @@
--- `file::length_at` meets its contract.
 use Rattle.question.specs.File.{length_at}
 use Rattle.question.proofs.file.length_at.Goals as goal
 

@@ -1,4 +1,3 @@
--- `file::offset_at` meets its contract.
 use Rattle.question.specs.File.{offset_at}
 use Rattle.question.proofs.file.offset_at.Goals as goal
 

@@ -1,4 +1,4 @@
--- `file::ok_pairs` meets its contract. The invariant: the pairs below i keep the rule. A body starts at a u32, so where it ends fits.
+-- The invariant: the pairs below i keep the rule. A body starts at a u32, so where it ends fits.
 use mathlib.Core.Path.{refl, sym, ◌∙◌}
 use Rattle.question.proofs.Pairs.{chain_start, chain_past, chain_on, chain_off, chain_end}
 use Rattle.question.proofs.file.ok_pairs.Goals as goal

@@ -1,4 +1,4 @@
--- `verdict::ok_bodies` meets its contract. The invariant: the bodies below i have their kinds' forms.
+-- The invariant: the bodies below i have their kinds' forms.
 use mathlib.Core.Path.{◌≡◌, sym, ap, ◌∙◌}
 use Prim.Native.Nat.{◌<◌}
 use Rattle.question.specs.Body.{ok_body}
