@@ -17,7 +17,7 @@ use Rattle.account.specs.declared.types.State.{State}
 use Rattle.account.specs.State.{choice}
 use Rattle.rules.specs.Booking.{Frame, sent}
 use Rattle.rules.specs.Tries.{tries, judge_try, judge_sent, judge_above}
-use Rattle.rules.specs.bridges.Sets.{in_set, foldUp, judge_one, judge_set}
+use Rattle.rules.specs.bridges.Sets.{in_set, fold_up, judge_one, judge_set}
 
 -- a digit is 0 or 1
 two : (s : ℕ) → (s % 2 ≡ 0) ⊎ (s % 2 ≡ 1)
@@ -131,7 +131,7 @@ module _ {ℓ} {A : Type ℓ} (f : A → ℕ → A) where
   walk (suc n) r s a = walk n (suc r) (s / 2) (cond (eqb (s % 2) 1) (f a r) a)
 
   -- it is the fold over a test that has the digits of s
-  walks : (m : ℕ → Bool) (n r s : ℕ) (a : A) → ((k : ℕ) → k < n → m (r + k) ≡ in_set s k) → walk n r s a ≡ foldUp f m n r a
+  walks : (m : ℕ → Bool) (n r s : ℕ) (a : A) → ((k : ℕ) → k < n → m (r + k) ≡ in_set s k) → walk n r s a ≡ fold_up f m n r a
   unfolding walk
   walks m zero r s a h = refl
   walks m (suc n) r s a h =
@@ -162,16 +162,16 @@ module _ {ℓ} {A : Type ℓ} (f : A → ℕ → A) where
 
   -- the two together: the fold over a set is the step at its lowest rung and the fold over the others; nothing is left to fold over 0
   pub next : (n s : ℕ) (a : A) → 0 < s → s < 2 ^ n
-      → foldUp f (in_set s) n 0 a ≡ foldUp f (in_set (s - 2 ^ count_trailing_zeros n s)) n 0 (f a (count_trailing_zeros n s))
+      → fold_up f (in_set s) n 0 a ≡ fold_up f (in_set (s - 2 ^ count_trailing_zeros n s)) n 0 (f a (count_trailing_zeros n s))
   next n s a p h =
       sym (walks (in_set s) n 0 s a (λ k l. rw zero-add)) ∙ takes n 0 s a p h
       ∙ rw (zero-add (count_trailing_zeros n s)) (walks (in_set _) n 0 _ _ (λ k l. rw zero-add))
 
-  pub none : (n : ℕ) (a : A) → foldUp f (in_set 0) n 0 a ≡ a
+  pub none : (n : ℕ) (a : A) → fold_up f (in_set 0) n 0 a ≡ a
   none n a = sym (walks (in_set 0) n 0 0 a (λ k l. rw zero-add)) ∙ nothing n 0 a
 
   -- two tests that agree on the n rungs
-  pub agree : (m m' : ℕ → Bool) (n r : ℕ) (a : A) → ((k : ℕ) → k < n → m (r + k) ≡ m' (r + k)) → foldUp f m n r a ≡ foldUp f m' n r a
+  pub agree : (m m' : ℕ → Bool) (n r : ℕ) (a : A) → ((k : ℕ) → k < n → m (r + k) ≡ m' (r + k)) → fold_up f m n r a ≡ fold_up f m' n r a
   agree m m' zero r a h = refl
   agree m m' (suc n) r a h =
       let here : m r ≡ m' r = rw add-zero at (h 0 (zero-lt-suc n)) in
@@ -198,7 +198,7 @@ module _ (t : Table) (p : Prices) where
         go true = refl
         go false = refl
 
-    all : (n r : ℕ) (s : State) → foldUp (judge_one t p) (sent fs) n r s ≡ judge_above n r t p fs s
+    all : (n r : ℕ) (s : State) → fold_up (judge_one t p) (sent fs) n r s ≡ judge_above n r t p fs s
     unfolding judge_above
     all zero r s = refl
     all (suc n) r s = all n (suc r) _ ∙ ap (judge_above n (suc r) t p fs) (sym (one s r))

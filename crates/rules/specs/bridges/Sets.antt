@@ -10,9 +10,9 @@ abbrev pub in_set : ℕ → ℕ → Bool
 in_set set r = eqb (set / 2 ^ r % 2) 1
 
 -- the n numbers from r upwards, each taken by f where the test has it
-abbrev pub foldUp {ℓ} : {A : Type ℓ} → (A → ℕ → A) → (ℕ → Bool) → ℕ → ℕ → A → A
-foldUp f m zero r a = a
-foldUp f m (suc n) r a = foldUp f m n (suc r) (cond (m r) (f a r) a)
+abbrev pub fold_up {ℓ} : {A : Type ℓ} → (A → ℕ → A) → (ℕ → Bool) → ℕ → ℕ → A → A
+fold_up f m zero r a = a
+fold_up f m (suc n) r a = fold_up f m n (suc r) (cond (m r) (f a r) a)
 
 -- "each above the choice and not tried is judged", of a rung that was sent
 abbrev pub judge_one : Table → Prices → State → ℕ → State
@@ -20,4 +20,4 @@ judge_one t p s r = cond (ltb (choice t s) r && not (tries s.core.trying r)) (ju
 
 -- "The distinct rungs of a transmission are taken from lowest to highest". It is `judge_above 32 0` wherever the set agrees with the frames (proofs/Set.antt).
 unfoldable pub judge_set : ℕ → Table → Prices → State → State
-judge_set set t p s = foldUp (judge_one t p) (in_set set) 32 0 s
+judge_set set t p s = fold_up (judge_one t p) (in_set set) 32 0 s
