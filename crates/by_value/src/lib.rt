@@ -1,6 +1,9 @@
 // The calls by value, for tools/bench: what a question file holds, made call by call on a controller that is one value.
-// Proved is that they are safe and end; that the choices are right, the bench sees by holding their sum to the Rust's.
+// Each call promises the sum of the choices that the definitions give; the bench holds it to the Rust's besides.
 #![tactic(auto)]
+
+ghost use Rattle.std.specs.Prelude.{◌≡◌};
+ghost use Rattle.by_value.specs.Sums.{none, added, fresh_for, events_of, frames_of_first};
 
 use ladder::types::Rung;
 use question::body::frames_of;
@@ -17,7 +20,9 @@ struct Sums {
 }
 
 // No choice yet.
-fn none() -> Sums {
+fn none() -> Sums
+    ensures { result ≡ none }
+{
     Sums {
         plain: 0,
         placed: 0,
@@ -25,7 +30,9 @@ fn none() -> Sums {
 }
 
 // One choice more.
-fn add(s: Sums, choice: Rung) -> Sums {
+fn add(s: Sums, choice: Rung) -> Sums
+    ensures { result ≡ added s choice.0 }
+{
     let plain = s.plain.wrapping_add(choice.0);
     Sums {
         plain,
@@ -34,7 +41,9 @@ fn add(s: Sums, choice: Rung) -> Sums {
 }
 
 // A fresh controller of an air by its number: 1 wide, else narrow.
-fn fresh_for(air: u32) -> RateController {
+fn fresh_for(air: u32) -> RateController
+    ensures { result ≡ fresh_for air }
+{
     if air == 1 {
         let wide = ladder::airs::wide_table();
         return rate::make::fresh(ladder::table::for_air(wide.table, true));
@@ -45,7 +54,9 @@ fn fresh_for(air: u32) -> RateController {
 
 // Each event is a call.
 #[unsafe(no_mangle)]
-pub extern "C" fn by_value_events(file: &[u8]) -> u32 {
+pub extern "C" fn by_value_events(file: &[u8]) -> u32
+    ensures { result ≡ events_of file.now }
+{
     let mut k = fresh_for(air(file));
     let mut sums = none();
     let count = event_count(file);
@@ -60,7 +71,9 @@ pub extern "C" fn by_value_events(file: &[u8]) -> u32 {
 
 // Each of the 256 frames of the first event is a call, the same reading with each. They are read before the first call.
 #[unsafe(no_mangle)]
-pub extern "C" fn by_value_frames(file: &[u8]) -> u32 {
+pub extern "C" fn by_value_frames(file: &[u8]) -> u32
+    ensures { result ≡ frames_of_first file.now }
+{
     let body = body_at(file, 0);
     let snr = reading_of(past(body, 1));
     let batch = frames_of(body);
