@@ -17,7 +17,7 @@ import sys
 
 WORD = r"[^\s(){}.;,@\"«»\[\]\\`]+"
 TOKEN = re.compile(r"--[^\n]*|//[^\n]*|\"(?:[^\"\\]|\\.)*\"|\.?(?:" + WORD + ")")
-SIGNED = re.compile(r"^( *)((?:abbrev |unfoldable |pub |ghost )*)(" + WORD + r") :(?= |$)")
+SIGNED = re.compile(r"^( *)((?:abbrev |unfoldable |pub |ghost )*)(" + WORD + r")(?: \{[^}]*\})? :(?= |$)")
 RECORD = re.compile(r"^( *)(?:pub )?record \S+")
 USE = re.compile(r"^\s*(?:pub |ghost )*use ([\w.]+)\.\{([^}]*)\}", re.M)
 MADE = ("Tie", "Goals", "Given", "Statement", "Met", "Code", "Symbol", "Lts", "TheVariants")
