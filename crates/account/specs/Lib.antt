@@ -1,3 +1,2 @@
 pub mod State
 pub mod Price
-pub mod bridges

@@ -1,7 +1,6 @@
 // What a controller keeps beside its table, and what a rung is rated by: document 01's section "Accounts, prior and price".
 #![tactic(auto)]
 
-pub mod cores;
 pub mod price;
 pub mod state;
 pub mod types;

@@ -1,9 +1,10 @@
-// How the state is read and fresh. Outside the arrays the source's own defaults are read, so each function is total.
-ghost use Rattle.std.specs.Prelude.{◌≡◌};
-ghost use Rattle.account.specs.State.{no_account, account, time_of, wait_of, choice, fresh_state, unpriced};
+// How the state is read, changed and fresh. Outside the arrays the source's own defaults are read, and nothing is stored, so each function is total.
+ghost use Rattle.std.specs.Prelude.{◌≡◌, not, ◌&&◌, ◌||◌};
+ghost use Rattle.account.specs.State.{no_account, runs, account, time_of, wait_of, choice, with_time, with_wait, fresh_state, unpriced};
 
-use crate::types::{Account, Families, Prices, State, Tariff};
-use ladder::types::{Rung, Table};
+use crate::types::{Account, Core, Families, Mark, Offsets, Prices, State, Tariff, Trying};
+use ladder::types::{Place, Rung, Table};
+use limits::reading::Reading;
 
 // The shortest wait before a rung is tried, in full transmissions.
 pub const PROBE_EVERY: u32 = 6;
@@ -19,53 +20,79 @@ pub fn no_account() -> Account
     }
 }
 
-// ---- reading
-// A rung's account.
-pub fn account_of(s: State, r: Rung) -> Account
-    ensures { result ≡ account s r.0 }
-{
-    let accounts = s.accounts;
-    if r.0 < 32 {
-        let i = r.0 as usize;
-        accounts[i]
-    } else {
-        no_account()
+impl State {
+    // ---- reading
+    // A rung's account.
+    pub fn account(&self, r: Rung) -> Account
+        ensures { result ≡ account self.now r.0 }
+    {
+        if r.0 < 32 {
+            self.accounts[r.0 as usize]
+        } else {
+            no_account()
+        }
+    }
+
+    // A rung's time since its try, in seconds of air.
+    pub fn time(&self, r: Rung) -> f64
+        ensures { result ≡ time_of self.now r.0 }
+    {
+        if r.0 < 32 {
+            self.since[r.0 as usize]
+        } else {
+            0.0
+        }
+    }
+
+    // A rung's wait, in full transmissions.
+    pub fn wait(&self, r: Rung) -> u32
+        ensures { result ≡ wait_of self.now r.0 }
+    {
+        if r.0 < 32 {
+            self.wait[r.0 as usize]
+        } else {
+            PROBE_EVERY
+        }
+    }
+
+    // The chosen rung.
+    pub fn choice(&self, t: &Table) -> Rung
+        ensures { result.0 ≡ choice t.now self.now }
+    {
+        t.rung_at(self.core.place)
+    }
+
+    // ---- changing
+    pub fn set_time(&mut self, r: Rung, x: f64)
+        ensures { self.new ≡ with_time self.old r.0 x }
+    {
+        if r.0 < 32 {
+            self.since[r.0 as usize] = x;
+        }
+    }
+
+    pub fn set_wait(&mut self, r: Rung, n: u32)
+        ensures { self.new ≡ with_wait self.old r.0 n }
+    {
+        if r.0 < 32 {
+            self.wait[r.0 as usize] = n;
+        }
     }
 }
 
-// A rung's time since its try, in seconds of air.
-pub fn time_of(s: State, r: Rung) -> f64
-    ensures { result ≡ time_of s r.0 }
+// ---- the running try
+// Whether a try runs.
+pub fn is_running(y: Trying) -> bool
+    ensures { result ≡ runs y }
 {
-    let since = s.since;
-    if r.0 < 32 {
-        let i = r.0 as usize;
-        since[i]
-    } else {
-        0.0
-    }
+    matches!(y, Trying::Running(_, _, _))
 }
 
-// A rung's wait, in full transmissions.
-pub fn wait_of(s: State, r: Rung) -> u32
-    ensures { result ≡ wait_of s r.0 }
+// Whether a try that ran before does not run on: none runs, or another was begun.
+pub fn was_ended(before: Trying, after: Trying, begun: bool) -> bool
+    ensures { result ≡ (runs before && (begun || not (runs after))) }
 {
-    let wait = s.wait;
-    if r.0 < 32 {
-        let i = r.0 as usize;
-        wait[i]
-    } else {
-        PROBE_EVERY
-    }
-}
-
-// The chosen rung.
-pub fn choice_of(t: Table, s: State) -> Rung
-    ensures { result.0 ≡ choice t s }
-{
-    let c = s.core;
-    let here = c.place;
-    ladder::read::rung_at(t, here)
+    is_running(before) && (begun || !is_running(after))
 }
 
 // ---- fresh
@@ -73,16 +100,22 @@ pub fn choice_of(t: Table, s: State) -> Rung
 pub fn fresh_state() -> State
     ensures { result ≡ fresh_state }
 {
-    let none = no_account();
-    let accounts = [none; 32];
-    let since = [0.0f64; 32];
-    let wait = [PROBE_EVERY; 32];
-    let core = crate::cores::fresh_core();
     State {
-        accounts,
-        since,
-        wait,
-        core,
+        accounts: [no_account(); 32],
+        since: [0.0; 32],
+        wait: [PROBE_EVERY; 32],
+        core: Core {
+            trying: Trying::Nothing,
+            snr: Reading::Missing,
+            echo: Reading::Missing,
+            place: Place(0),
+            offsets: Offsets {
+                floor: 0.0,
+                ofdm: 0.0,
+            },
+            failed: false,
+            clean: Mark::Nowhere,
+        },
     }
 }
 
@@ -90,17 +123,15 @@ pub fn fresh_state() -> State
 pub fn unpriced_prices() -> Prices
     ensures { result ≡ unpriced }
 {
-    let bursts = [0u32; 32];
-    let tariff = Tariff {
-        given: false,
-        floor: 0.0,
-        ordinary: 0.0,
-        gap: 0.0,
-        bursts,
-        counted: 0,
-    };
     Prices {
-        tariff,
+        tariff: Tariff {
+            given: false,
+            floor: 0.0,
+            ordinary: 0.0,
+            gap: 0.0,
+            bursts: [0; 32],
+            counted: 0,
+        },
         families: Families::Unset,
     }
 }

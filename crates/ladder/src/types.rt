@@ -2,11 +2,11 @@
 use limits::reading::Reading;
 
 // A rung of the ladder by its number in the table: the source's mode.
-#[derive(Clone, Copy)]
+#[derive(Clone, Copy, PartialEq, Eq)]
 pub struct Rung(pub u32);
 
 // A place on the front: the source's index. The rung there is `front[place]`.
-#[derive(Clone, Copy)]
+#[derive(Clone, Copy, PartialEq, Eq)]
 pub struct Place(pub u32);
 
 // One rung's row: its 10 % point in dB, a frame's data bytes, a frame's air in seconds, and the echo share that it cannot carry.
