@@ -1,5 +1,4 @@
--- What a controller holds beside its table: how it is read, changed and fresh. There is no record update in antt, so each field that a step changes has its `with`.
--- Definitions only.
+-- What a controller holds beside its table: how it is read, changed and fresh. Each field that a step changes has its `with`. Definitions only.
 use Rattle.std.specs.Prelude.{ℕ, Bool, true, false, List, replicate, slice_index_or, slice_set}
 use Rattle.std.specs.Prelude.{Float}
 use Rattle.float.specs.Numbers.{f0}
@@ -47,58 +46,26 @@ choice t s = rung_at t s.core.place.0
 
 -- ---- changing one field, of what is no array
 abbrev pub core_with_trying : Core → Trying → Core
-core_with_trying c y = record {
-  trying = y;
-  snr = c.snr;
-  echo = c.echo;
-  place = c.place;
-  offsets = c.offsets;
-  failed = c.failed;
-  clean = c.clean;
-}
+core_with_trying c y = record c { trying = y }
 
 abbrev pub core_with_snr : Core → Reading → Core
-core_with_snr c x = record {
-  trying = c.trying;
-  snr = x;
-  echo = c.echo;
-  place = c.place;
-  offsets = c.offsets;
-  failed = c.failed;
-  clean = c.clean;
-}
+core_with_snr c x = record c { snr = x }
 
 abbrev pub core_with_echo : Core → Reading → Core
-core_with_echo c x = record {
-  trying = c.trying;
-  snr = c.snr;
-  echo = x;
-  place = c.place;
-  offsets = c.offsets;
-  failed = c.failed;
-  clean = c.clean;
-}
+core_with_echo c x = record c { echo = x }
 
 abbrev pub core_with_place : Core → ℕ → Core
-core_with_place c i = record {
-  trying = c.trying;
-  snr = c.snr;
-  echo = c.echo;
-  place = place i;
-  offsets = c.offsets;
-  failed = c.failed;
-  clean = c.clean;
-}
+core_with_place c i = record c { place = place i }
 
 -- ---- changing one field
 abbrev pub with_since : State → List Float → State
-with_since s l = record { accounts = s.accounts; since = l; wait = s.wait; core = s.core }
+with_since s l = record s { since = l }
 
 abbrev pub with_waits : State → List ℕ → State
-with_waits s l = record { accounts = s.accounts; since = s.since; wait = l; core = s.core }
+with_waits s l = record s { wait = l }
 
 abbrev pub with_core : State → Core → State
-with_core s c = record { accounts = s.accounts; since = s.since; wait = s.wait; core = c }
+with_core s c = record s { core = c }
 
 abbrev pub with_time : State → ℕ → Float → State
 with_time s r x = with_since s (slice_set s.since r x)

@@ -15,7 +15,7 @@ use Rattle.float.specs.Numbers.{f64, ◌⊗◌, ◌⊘◌, f0, f1}
 use Rattle.half.specs.Power.{descent, series, half}
 use Rattle.half.specs.Powers.{powers}
 use Rattle.rules.specs.Booking.{f12}
-use Rattle.rules.specs.bridges.Tally.{Fade, factor, fade_at}
+use Rattle.rules.specs.bridges.Pass.{Fade, factor, fade_at}
 
 -- "its own by half(1/12)": 0.9438743126816935
 pub own_fade_lem : half (f1 ⊘ f12) ≡ f64 0x3fee_3437_e710_1344

@@ -8,5 +8,6 @@ pub mod Trying
 pub mod Clock
 pub mod Calm
 pub mod Fade
-pub mod Tally
+pub mod Ageing
+pub mod Booked
 pub mod FirstBad

@@ -1,3 +1,4 @@
 pub mod Sets
-pub mod Tally
+pub mod Pass
 pub mod Check
+pub mod Ageing

@@ -1,30 +1,25 @@
 // What a frame does to the accounts: it ages those of the other rungs by its air, and its own by one frame, which then gains.
-ghost use Rattle.std.specs.Prelude.{◌≡◌, ◌&&◌, min};
+ghost use Rattle.std.specs.Prelude.{◌≡◌, ◌&&◌, ◌≤◌};
 ghost use Rattle.std.specs.Float.Ieee.{lt, eq};
 ghost use Rattle.float.specs.Numbers.{f0};
-ghost use Rattle.rules.specs.Booking.{aged, gained};
-ghost use Rattle.rules.specs.bridges.Tally.{fade_at, fades_for, fades_at, book_by, books_by};
+ghost use Rattle.ladder.specs.Types.{rungs_of};
+ghost use Rattle.rules.specs.Booking.{aged, gained, book_frame};
+ghost use Rattle.rules.specs.bridges.Pass.{factor, fade_at, Fading, Kept, no_fades};
+ghost use Rattle.rules.specs.bridges.Ageing.{aged_by};
 
 use crate::types::Frame;
 use account::types::Account;
-use ladder::read::at_most_32;
-use ladder::types::{Row, Rung};
+use ladder::types::{Rung, Table};
 
 // In how many of its own frames' air an account falls to half.
 const HALF_LIFE: f64 = 12.0;
 
 // What a frame's own rung ages by: half(1/12).
-pub const OWN_FADE: f64 = 0.9438743126816935;
+const OWN_FADE: f64 = 0.9438743126816935;
 
-// The factor that rungs of one frame time age by. A time of 0.0: there is none yet.
-#[derive(Clone, Copy)]
-pub struct Fade {
-    pub time: f64,
-    pub by: f64,
-}
-
+// ---- one account
 // An account aged by a factor.
-pub fn age_account(by: f64, a: Account) -> Account
+fn age_account(by: f64, a: Account) -> Account
     ensures { result ≡ aged by a }
 {
     Account {
@@ -35,34 +30,37 @@ pub fn age_account(by: f64, a: Account) -> Account
 }
 
 // The account of a frame's own rung, aged already, with the frame.
-pub fn gain_frame(f: Frame, a: Account) -> Account
+fn gain_frame(f: Frame, a: Account) -> Account
     ensures { result ≡ gained f a }
 {
-    let air = a.air + f.air;
-    let frames = a.frames + 1.0;
-    if f.decoded {
-        return Account {
-            bytes: a.bytes + f.capacity as f64,
-            air,
-            frames,
-        };
-    }
     Account {
-        bytes: a.bytes,
-        air,
-        frames,
+        bytes: if f.decoded {
+            a.bytes + f.capacity as f64
+        } else {
+            a.bytes
+        },
+        air: a.air + f.air,
+        frames: a.frames + 1.0,
     }
 }
 
-// Whether there is a last frame time, and the rung's is the same.
-pub fn is_same(time: f64, last: f64) -> bool
-    ensures { result ≡ (lt f0 last && eq time last) }
+// ---- factors
+// The factor that rungs of one frame time age by. A time of 0.0: there is none yet.
+#[derive(Clone, Copy)]
+pub struct Fade {
+    pub time: f64,
+    pub by: f64,
+}
+
+// Whether there is a last value, and this is the same.
+fn is_same(x: f64, last: f64) -> bool
+    ensures { result ≡ (lt f0 last && eq x last) }
 {
-    if last > 0.0 { time == last } else { false }
+    last > 0.0 && x == last
 }
 
 // The factor for a rung: the last one where the frame time is the same.
-pub fn fade_for(air: f64, time: f64, last: Fade) -> Fade
+fn fade_for(air: f64, time: f64, last: Fade) -> Fade
     ensures { result ≡ fade_at air time last }
 {
     if is_same(time, last.time) {
@@ -74,56 +72,72 @@ pub fn fade_for(air: f64, time: f64, last: Fade) -> Fade
     }
 }
 
-// A rung's account after a frame, where other rungs than the frame's age by a factor.
-pub fn book_account(f: Frame, r: Rung, by: f64, a: Account) -> Account
-    ensures { result ≡ book_by f r.0 by a }
-{
-    let own = f.rung;
-    if own.0 == r.0 {
-        return gain_frame(f, age_account(OWN_FADE, a));
-    }
-    age_account(by, a)
+// The factors of all rungs for a frame, and the air of that frame, for which they are kept. An air of 0.0: there are none yet.
+#[derive(Clone, Copy)]
+pub struct Fades {
+    pub by: [f64; 32],
+    pub air: f64,
 }
 
-// The factors of all rungs in use, for a frame's air. One is computed anew only where the frame time differs from the rung's before.
-pub fn fades_for(rows: [Row; 32], count: u32, air: f64) -> [f64; 32]
-    ensures { result ≡ fades_for rows count air }
-{
-    let mut fades = [0.0f64; 32];
-    let mut fade = Fade { time: 0.0, by: 1.0 };
-    let rungs = at_most_32(count);
-    let mut i: u32 = 0;
-    while i < rungs {
-        let at = i as usize;
-        let row = rows[at];
-        fade = fade_for(air, row.time, fade);
-        fades[at] = fade.by;
-        i += 1;
+impl Fades {
+    // Before the first frame.
+    pub fn none() -> Fades
+        ensures { result ≡ no_fades }
+    {
+        Fades {
+            by: [1.0; 32],
+            air: 0.0,
+        }
     }
-    fades
+
+    // The factors of all rungs in use, for a frame's air. One is computed anew only where the frame time differs from the rung's before.
+    fn fill(&mut self, t: &Table, air: f64)
+        ensures fading { Fading t.now air self.new }
+        ensures of_air { self.new.air ≡ air }
+    {
+        let mut fade = Fade { time: 0.0, by: 1.0 };
+        for i in 0..t.rungs() {
+            fade = fade_for(air, t.row(Rung(i)).time, fade);
+            self.by[i as usize] = fade.by;
+        }
+        self.air = air;
+    }
+
+    // The factors for a frame's air: those kept where it is the air that they are for.
+    pub fn turn(&mut self, t: &Table, air: f64)
+        requires { Kept t.now self.old }
+        ensures fading { Fading t.now air self.new }
+        ensures kept { Kept t.now self.new }
+    {
+        if !is_same(air, self.air) {
+            self.fill(t, air);
+        }
+    }
 }
 
-// The factors for a frame's air: the old ones where it is the air that they are for.
-pub fn fades_at(rows: [Row; 32], count: u32, air: f64, last: f64, old: [f64; 32]) -> [f64; 32]
-    ensures { result ≡ fades_at rows count air last old }
+// ---- all accounts
+// The first n accounts, each aged by its factor.
+fn age(accounts: &mut [Account; 32], by: &[f64; 32], n: usize)
+    requires { n ≤ 32 }
+    ensures { accounts.new ≡ aged_by n 0 by.now accounts.old }
 {
-    if is_same(air, last) {
-        return old;
+    for i in 0..n {
+        accounts[i] = age_account(by[i], accounts[i]);
     }
-    fades_for(rows, count, air)
 }
 
-// All accounts after a frame, by the factors of its air.
-pub fn book_accounts(fades: [f64; 32], count: u32, f: Frame, old: [Account; 32]) -> [Account; 32]
-    ensures { result ≡ books_by (min 32 count) 0 fades f old }
+// All accounts after a frame, by the factors of its air: all are aged, and the frame's own rung as it was before ages by its own factor and gains.
+pub fn book_accounts(t: &Table, accounts: &mut [Account; 32], fades: &Fades, f: Frame)
+    requires { Fading t.now f.air fades.now }
+    ensures { accounts.new ≡ book_frame (rungs_of t.now) 0 t.now f accounts.old }
 {
-    let mut accounts = old;
-    let rungs = at_most_32(count);
-    let mut i: u32 = 0;
-    while i < rungs {
-        let at = i as usize;
-        accounts[at] = book_account(f, Rung(i), fades[at], accounts[at]);
-        i += 1;
+    let r = f.rung.0 as usize;
+    let n = t.rungs() as usize;
+    if r >= n {
+        age(accounts, &fades.by, n);
+        return;
     }
-    accounts
+    let own = accounts[r];
+    age(accounts, &fades.by, n);
+    accounts[r] = gain_frame(f, age_account(OWN_FADE, own));
 }

@@ -3,7 +3,7 @@ ghost use Rattle.std.specs.Prelude.{◌≡◌};
 ghost use Rattle.rules.specs.bridges.Check.{frame_in, count_up, begin_check, check_step, check_all};
 
 use crate::types::Frame;
-use ladder::types::Air;
+use ladder::types::Table;
 use limits::refusal::{Refusal, Verdict};
 
 // No list of so many frames is accepted: they are counted no further.
@@ -18,20 +18,17 @@ pub struct Check {
 }
 
 // A frame against a table of so many rungs. Refused: 6, 8.
+#[tactic(auto, unfolding(crate::specs::bridges::Check::frame_in))]
 pub fn frame_verdict(rungs: u32, f: Frame) -> Verdict
     ensures { result ≡ frame_in rungs f }
 {
-    let r = f.rung;
-    if r.0 >= rungs {
-        return Verdict::Refused(Refusal::UnknownRung);
+    if f.rung.0 >= rungs {
+        Verdict::Refused(Refusal::UnknownRung)
+    } else if limits::values::ok_air(f.air) && limits::values::ok_bytes(f.capacity) {
+        Verdict::Accepted
+    } else {
+        Verdict::Refused(Refusal::OutsideLimits)
     }
-    if !limits::values::ok_air(f.air) {
-        return Verdict::Refused(Refusal::OutsideLimits);
-    }
-    if !limits::values::ok_bytes(f.capacity) {
-        return Verdict::Refused(Refusal::OutsideLimits);
-    }
-    Verdict::Accepted
 }
 
 // The count with a frame.
@@ -41,40 +38,38 @@ fn count_up(n: u32) -> u32
     if n < OVER { n + 1 } else { n }
 }
 
-// Before the first frame.
-pub fn begin_check(a: Air) -> Check
-    ensures { result ≡ begin_check a }
-{
-    Check {
-        rungs: ladder::read::rungs_of(a),
-        count: 0,
-        verdict: Verdict::Accepted,
+impl Check {
+    // Before the first frame.
+    pub fn begin(t: &Table) -> Check
+        ensures { result ≡ begin_check t.now.air }
+    {
+        Check {
+            rungs: t.rungs(),
+            count: 0,
+            verdict: Verdict::Accepted,
+        }
     }
-}
 
-// One frame: a refusal is handed on.
-pub fn check_frame(c: Check, f: Frame) -> Check
-    ensures { result ≡ check_step c f }
-{
-    let before = c.verdict;
-    let count = count_up(c.count);
-    let verdict = limits::refusal::or_else(before, frame_verdict(c.rungs, f));
-    Check {
-        rungs: c.rungs,
-        count,
-        verdict,
+    // One frame more: a refusal is handed on.
+    #[tactic(auto, unfolding(crate::specs::bridges::Check::check_step))]
+    pub fn with(self, f: Frame) -> Check
+        ensures { result ≡ check_step self f }
+    {
+        Check {
+            count: count_up(self.count),
+            verdict: limits::refusal::or_else(self.verdict, frame_verdict(self.rungs, f)),
+            ..self
+        }
     }
 }
 
 // All frames of a lent list, in order.
-pub fn check_frames(s: Check, frames: &[Frame]) -> Check
-    ensures { result ≡ check_all s frames.now }
+pub fn check_frames(t: &Table, frames: &[Frame]) -> Check
+    ensures { result ≡ check_all (begin_check t.now.air) frames.now }
 {
-    let mut t = s;
-    let mut i = 0;
-    while i < frames.len() {
-        t = check_frame(t, frames[i]);
-        i += 1;
+    let mut c = Check::begin(t);
+    for f in frames {
+        c = c.with(*f);
     }
-    t
+    c
 }

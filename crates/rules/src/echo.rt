@@ -1,5 +1,5 @@
 // Document 01's section "Echo and silence", as far as single values go.
-ghost use Rattle.std.specs.Prelude.{◌≡◌, ◌-◌, min};
+ghost use Rattle.std.specs.Prelude.{◌≡◌};
 ghost use Rattle.rules.specs.Echo.{smooth, smooth_snr, smooth_echo, over};
 
 use limits::reading::Reading;
@@ -34,23 +34,8 @@ pub fn smooth_echo(y: Reading, x: f64) -> Reading
 pub fn over_limit(limit: Reading, echo: Reading) -> bool
     ensures { result ≡ over limit echo }
 {
-    match limit {
-        Reading::Missing => false,
-        Reading::Value(l) => match echo {
-            Reading::Missing => false,
-            Reading::Value(e) => e > l,
-        },
+    match (limit, echo) {
+        (Reading::Value(l), Reading::Value(e)) => e > l,
+        _ => false,
     }
-}
-
-pub fn at_most_31(i: u32) -> u32
-    ensures { result ≡ min 31 i }
-{
-    if i < 31 { i } else { 31 }
-}
-
-pub fn less(a: u32, b: u32) -> u32
-    ensures { result ≡ a - b }
-{
-    if a < b { 0 } else { a - b }
 }

@@ -1,10 +1,10 @@
 // What a transmission says of the OFDM family, and of the choice.
 ghost use Rattle.std.specs.Prelude.{◌≡◌};
-ghost use Rattle.rules.specs.bridges.Tally.{mark_family, mark_choice, family_mark, choice_mark};
+ghost use Rattle.rules.specs.bridges.Pass.{no_marks, mark_family, mark_choice, family_mark, choice_mark};
 
 use crate::types::Frame;
 use account::types::Mark;
-use ladder::types::Rung;
+use ladder::types::{Rung, Table};
 
 // Whether an OFDM frame was sent, whether one was decoded, whether a frame went at the choice, and whether each of those was decoded alone.
 #[derive(Clone, Copy)]
@@ -15,53 +15,62 @@ pub struct Marks {
     pub alone: bool,
 }
 
-// The marks after a frame, as far as its family goes.
-pub fn mark_family(floors: u32, f: Frame, m: Marks) -> Marks
-    ensures { result ≡ mark_family floors f m }
-{
-    let r = f.rung;
-    if r.0 < floors {
-        return m;
-    }
-    Marks {
-        ofdm: true,
-        heard: m.heard | f.decoded,
-        chosen: m.chosen,
-        alone: m.alone,
-    }
-}
-
-// The marks after a frame, as far as the choice goes.
-pub fn mark_choice(here: Rung, f: Frame, m: Marks) -> Marks
-    ensures { result ≡ mark_choice here.0 f m }
-{
-    let r = f.rung;
-    if r.0 == here.0 {
-        return Marks {
-            ofdm: m.ofdm,
-            heard: m.heard,
-            chosen: true,
-            alone: m.alone & (f.decoded & !f.combined),
-        };
-    }
-    m
-}
-
-// The failed mark after the pass.
-pub fn judge_family(m: Marks, failed: bool) -> bool
-    ensures { result ≡ family_mark m failed }
-{
-    if m.ofdm { !m.heard } else { failed }
-}
-
-// The clean mark after the pass.
-pub fn clean_mark(m: Marks, here: Rung) -> Mark
-    ensures { result ≡ choice_mark m here }
-{
-    if m.chosen {
-        if m.alone {
-            return Mark::On(here);
+impl Marks {
+    // Before the first frame.
+    pub fn none() -> Marks
+        ensures { result ≡ no_marks }
+    {
+        Marks {
+            ofdm: false,
+            heard: false,
+            chosen: false,
+            alone: true,
         }
     }
-    Mark::Nowhere
+
+    // The marks after a frame, as far as its family goes.
+    pub fn mark_family(self, t: &Table, f: Frame) -> Marks
+        ensures { result ≡ mark_family t.now f self }
+    {
+        if t.is_floor(f.rung) {
+            return self;
+        }
+        Marks {
+            ofdm: true,
+            heard: self.heard | f.decoded,
+            ..self
+        }
+    }
+
+    // The marks after a frame, as far as the choice goes.
+    pub fn mark_choice(self, here: Rung, f: Frame) -> Marks
+        ensures { result ≡ mark_choice here.0 f self }
+    {
+        if f.rung != here {
+            return self;
+        }
+        Marks {
+            chosen: true,
+            alone: self.alone & (f.decoded & !f.combined),
+            ..self
+        }
+    }
+
+    // The failed mark after the pass.
+    pub fn judge_family(self, failed: bool) -> bool
+        ensures { result ≡ family_mark self failed }
+    {
+        if self.ofdm { !self.heard } else { failed }
+    }
+
+    // The clean mark after the pass.
+    pub fn clean_mark(self, here: Rung) -> Mark
+        ensures { result ≡ choice_mark self here }
+    {
+        if self.chosen && self.alone {
+            Mark::On(here)
+        } else {
+            Mark::Nowhere
+        }
+    }
 }

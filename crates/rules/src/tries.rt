@@ -2,11 +2,11 @@
 ghost use Rattle.std.specs.Prelude.{◌≡◌, ◌||◌, suc, ◌*◌, min, leb, ltb};
 ghost use Rattle.std.specs.Bool.{beq};
 ghost use Rattle.rules.specs.Tries.{tries, is_on};
-ghost use Rattle.rules.specs.bridges.Tally.{is_own, count_own};
+ghost use Rattle.rules.specs.bridges.Pass.{is_own, count_own};
 
 use crate::types::Frame;
 use account::types::{Mark, Trying};
-use ladder::types::{Air, Rung};
+use ladder::types::{Rung, Table};
 
 // The longest wait before a rung is tried, in full transmissions.
 const PROBE_WAIT_MAX: u32 = 48;
@@ -14,8 +14,10 @@ const PROBE_WAIT_MAX: u32 = 48;
 // How far under its wait in seconds a time may be.
 pub const WAIT_TOLERANCE_S: f64 = 1e-9;
 
-// A try is over at so many frames of its own.
+// A try is over at so many frames of its own, and at so many calls.
 const TRY_FRAMES: u32 = 3;
+
+const TRY_CALLS: u32 = 6;
 
 // Twice the wait, at most the longest: not computed where it could wrap.
 pub fn longer(w: u32) -> u32
@@ -28,62 +30,43 @@ pub fn longer(w: u32) -> u32
 pub fn is_trying(y: Trying, r: Rung) -> bool
     ensures { result ≡ tries y r.0 }
 {
-    match y {
-        Trying::Nothing => false,
-        Trying::Running(q, _, _) => q.0 == r.0,
-    }
+    matches!(y, Trying::Running(q, _, _) if q == r)
 }
 
 // Whether a frame went at the rung being tried.
 fn is_own(y: Trying, f: Frame) -> bool
     ensures { result ≡ is_own y f }
 {
-    let own = f.rung;
-    match y {
-        Trying::Nothing => false,
-        Trying::Running(r, _, _) => own.0 == r.0,
-    }
+    matches!(y, Trying::Running(r, _, _) if f.rung == r)
 }
 
 // The count with a frame, no further than what decides.
 pub fn count_own(y: Trying, f: Frame, n: u32) -> u32
     ensures { result ≡ count_own y f n }
 {
-    if is_own(y, f) {
-        if n < TRY_FRAMES {
-            return n + 1;
-        }
+    if is_own(y, f) && n < TRY_FRAMES {
+        n + 1
+    } else {
+        n
     }
-    n
 }
 
 // Whether a try is over with this call: so many own frames with the call's, and so many calls before it.
 pub fn is_over(frames: u64, calls: u32) -> bool
     ensures { result ≡ (leb 3 frames || leb 6 (suc calls)) }
 {
-    if frames >= 3 {
-        return true;
-    }
-    if calls >= 5 {
-        return true;
-    }
-    false
+    frames >= TRY_FRAMES as u64 || calls >= TRY_CALLS - 1
 }
 
 pub fn is_on(m: Mark, r: Rung) -> bool
     ensures { result ≡ is_on m r.0 }
 {
-    match m {
-        Mark::Nowhere => false,
-        Mark::On(q) => q.0 == r.0,
-    }
+    matches!(m, Mark::On(q) if q == r)
 }
 
 // Whether two rungs are of one family.
-pub fn same_family(t: Air, a: Rung, b: Rung) -> bool
-    ensures { result ≡ beq (ltb a.0 t.floors) (ltb b.0 t.floors) }
+pub fn same_family(t: &Table, a: Rung, b: Rung) -> bool
+    ensures { result ≡ beq (ltb a.0 t.now.air.floors) (ltb b.0 t.now.air.floors) }
 {
-    let x = a.0 < t.floors;
-    let y = b.0 < t.floors;
-    x == y
+    t.is_floor(a) == t.is_floor(b)
 }

@@ -14,5 +14,5 @@ returns-then-x c = rw (low, c.if-x.true) refl
 pub returns-then-x-2 : goal.returns-then-x-2
 returns-then-x-2 c = rw (low, c.if-x.false, c.if-x-2.true) refl
 
-pub returns : goal.returns
-returns c = rw (low, c.if-x.false, c.if-x-2.false) refl
+pub returns-else-x-2 : goal.returns-else-x-2
+returns-else-x-2 c = rw (low, c.if-x.false, c.if-x-2.false) refl

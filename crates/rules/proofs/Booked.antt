@@ -1,0 +1,234 @@
+-- One pass over the frames gathers what the definitions' passes give each: the fold of the step is the parts of the folds. The sums and counts start where a pass
+-- stands, so that each part goes by induction over the frames. Assumes nothing.
+use mathlib.Core.Path.{◌≡◌, refl, sym, ap, ◌∙◌}
+use mathlib.Core.Bool.{Bool, true, false, not, ◌&&◌, ◌||◌, cond, or-true, or-false, or_assoc, and-true, and_assoc}
+use mathlib.Core.List.{List, [], ◌∷◌, foldl}
+use Prim.Native.Nat.{ℕ, zero, suc, ◌+◌, ◌*◌, ◌≤◌, ◌<◌, min}
+use native.Mathlib.Nat.{zero-add}
+use native.Mathlib.Omega.{arith}
+use native.Mathlib.Decide.{dec_lt}
+use lib.Dec.{ltb, eqb}
+use borrow.Author.Tests.{lt-ltb, le-ltb, le-leb, ne_eqb}
+use Rattle.float.specs.Numbers.{f0}
+use Rattle.float.specs.Sum.{total}
+use Rattle.limits.specs.declared.reading.Reading.{Reading}
+use Rattle.limits.specs.declared.reading.Reading.TheVariants.{Missing, Value}
+use Rattle.ladder.specs.declared.types.Rung.{Rung}
+use Rattle.ladder.specs.declared.types.Table.{Table}
+use Rattle.ladder.specs.Lists.{every}
+use Rattle.ladder.specs.Types.{is_floor}
+use Rattle.account.specs.declared.types.Core.{Core}
+use Rattle.account.specs.declared.types.Offsets.{Offsets}
+use Rattle.account.specs.declared.types.Prices.{Prices}
+use Rattle.account.specs.declared.types.State.{State}
+use Rattle.account.specs.declared.types.Trying.{Trying}
+use Rattle.account.specs.declared.types.Trying.TheVariants.{Nothing, Running}
+use Rattle.account.specs.State.{wait_of, with_time, with_wait}
+use Rattle.rules.specs.Lists.{some_of, how_many}
+use Rattle.rules.specs.Echo.{observe_snr}
+use Rattle.rules.specs.Booking.{Frame, at, offsets_at, offsets_after, ofdm, judge_family, airs, sent, clean_mark, booked}
+use Rattle.rules.specs.Tries.{better, judge_try, to_judge, judge_sent, judge_above, own_frames, end_try, counted, decide}
+use Rattle.rules.specs.bridges.Sets.{in_set}
+use Rattle.rules.specs.bridges.Pass.{Pass, Marks, add_rung, offsets_by, mark_family, mark_choice, count_own, begin_pass, here_of, pass_step, pass_all, booked_accounts, finish_pass, judged_pass, decided_pass}
+use Rattle.rules.specs.Transmission.{judged, inside}
+use Rattle.rules.proofs.Set.{adds, none_in, judge_frames}
+
+-- ---- the parts
+offsets_none : (t : Table) (snr : Reading) (o : Offsets) → offsets_at t snr [] o ≡ o
+offsets_none t Missing o = refl
+offsets_none t (Value snr) o = refl
+
+offsets_step : (t : Table) (snr : Reading) (f : Frame) (fs : List Frame) (o : Offsets)
+    → offsets_at t snr fs (offsets_by t snr f o) ≡ offsets_at t snr (f ∷ fs) o
+offsets_step t Missing f fs o = refl
+offsets_step t (Value snr) f fs o = refl
+
+-- the set of the rungs sent, and the count of a try's own frames, up to 3
+abbrev rungs_from : ℕ → List Frame → ℕ
+rungs_from = foldl (λ set f. add_rung set f.rung.0)
+
+abbrev count_from : Trying → ℕ → List Frame → ℕ
+count_from y = foldl (λ n f. count_own y f n)
+
+-- decoded alone, if it went at the choice
+abbrev clean : ℕ → Frame → Bool
+clean here f = not (at here f) || (f.decoded && not f.combined)
+
+abbrev heard_of : Table → Frame → Bool
+heard_of t f = ofdm t f && f.decoded
+
+abbrev marks_from : Table → ℕ → List Frame → Marks → Marks
+marks_from t here fs m = record {
+  ofdm = m.ofdm || some_of (ofdm t) fs;
+  heard = m.heard || some_of (heard_of t) fs;
+  chosen = m.chosen || sent fs here;
+  alone = m.alone && every (clean here) fs;
+}
+
+-- a frame's own marks by its two tests, whether it is floor and whether it went at the choice
+abbrev by_family : Bool → Frame → Marks → Marks
+by_family a f m = cond a m (record { ofdm = true; heard = m.heard || f.decoded; chosen = m.chosen; alone = m.alone })
+
+abbrev by_choice : Bool → Frame → Marks → Marks
+by_choice b f m =
+    cond b (record { ofdm = m.ofdm; heard = m.heard; chosen = true; alone = m.alone && (f.decoded && not f.combined) }) m
+
+-- and those of the frames after it
+marks_step : (t : Table) (here : ℕ) (f : Frame) (fs : List Frame) (m : Marks)
+    → marks_from t here fs (mark_choice here f (mark_family t f m)) ≡ marks_from t here (f ∷ fs) m
+marks_step t here f fs m =
+    go (is_floor t f.rung.0) (at here f) (some_of (ofdm t) fs) (some_of (heard_of t) fs) (sent fs here) (every (clean here) fs)
+  where
+    go : (a b p q r u : Bool)
+        → ◌≡◌ {A = Marks}
+        (record {
+          ofdm = (by_choice b f (by_family a f m)).ofdm || p;
+          heard = (by_choice b f (by_family a f m)).heard || q;
+          chosen = (by_choice b f (by_family a f m)).chosen || r;
+          alone = (by_choice b f (by_family a f m)).alone && u;
+        })
+        (record {
+          ofdm = m.ofdm || (not a || p);
+          heard = m.heard || (not a && f.decoded || q);
+          chosen = m.chosen || (b || r);
+          alone = m.alone && ((not b || (f.decoded && not f.combined)) && u);
+        })
+    go true true p q r u = rw (or-true m.chosen, and_assoc m.alone (f.decoded && not f.combined) u) refl
+    go true false p q r u = refl
+    go false true p q r u =
+        rw (or-true m.ofdm, or-true m.chosen, or_assoc m.heard f.decoded q, and_assoc m.alone (f.decoded && not f.combined) u) refl
+    go false false p q r u = rw (or-true m.ofdm, or_assoc m.heard f.decoded q) refl
+
+-- ---- the whole
+-- what the folds make of a pass
+abbrev gathered : Table → Core → Pass → List Frame → Pass
+gathered t c y fs = record {
+  sent = rungs_from y.sent fs;
+  offsets = offsets_at t c.snr fs y.offsets;
+  air = total y.air (airs fs);
+  own = count_from c.trying y.own fs;
+  marks = marks_from t (here_of t c) fs y.marks;
+}
+
+gathered_none : (t : Table) (c : Core) (y : Pass) → y ≡ gathered t c y []
+unfolding total
+gathered_none t c y =
+    let m = y.marks in
+    rw (offsets_none t c.snr y.offsets, or-false m.ofdm, or-false m.heard, or-false m.chosen, and-true m.alone) refl
+
+gathered_step : (t : Table) (c : Core) (y : Pass) (f : Frame) (fs : List Frame) → gathered t c (pass_step t c y f) fs ≡ gathered t c y (f ∷ fs)
+unfolding total pass_step
+gathered_step t c y f fs = rw (offsets_step t c.snr f fs y.offsets, marks_step t (here_of t c) f fs y.marks) refl
+
+-- the fold of the step is the parts of the folds
+gathers : (t : Table) (c : Core) (y : Pass) (fs : List Frame) → pass_all t c y fs ≡ gathered t c y fs
+gathers t c y [] = gathered_none t c y
+gathers t c y (f ∷ fs) = gathers t c (pass_step t c y f) fs ∙ gathered_step t c y f fs
+
+-- ---- a pass from its beginning
+-- the state after it is the one that the definitions book
+pub pass_books : (t : Table) (s : State) (fs : List Frame) → finish_pass t (booked_accounts t fs s) (pass_all t s.core (begin_pass s.core) fs) ≡ booked t s fs
+unfolding finish_pass booked offsets_after judge_family clean_mark
+pass_books t s fs = ap (finish_pass t (booked_accounts t fs s)) (gathers t s.core (begin_pass s.core) fs)
+
+-- ---- the set of rungs sent
+add_rung_lem : (set q r : ℕ) → r < 32 → in_set (add_rung set q) r ≡ (eqb q r || in_set set r)
+add_rung_lem set q r h =
+    elim (dec_lt q 32) [
+      | yes l ↦ rw (lt-ltb q 32 l) (adds set q r)
+      | no l ↦ let g : 32 ≤ q = omega arith in rw (le-ltb q 32 g, ne_eqb q r (λ e. omega arith)) refl
+    ]
+
+rungs_from_lem : (set : ℕ) (fs : List Frame) (r : ℕ) → r < 32 → in_set (rungs_from set fs) r ≡ (sent fs r || in_set set r)
+rungs_from_lem set [] r h = refl
+rungs_from_lem set (f ∷ fs) r h =
+    rungs_from_lem (add_rung set f.rung.0) fs r h ∙ ap (λ (b : Bool). sent fs r || b) (add_rung_lem set f.rung.0 r h) ∙ go (sent fs r) (at r f)
+  where
+    go : (a b : Bool) → (a || (b || in_set set r)) ≡ (b || a || in_set set r)
+    go true true = refl
+    go true false = refl
+    go false true = refl
+    go false false = refl
+
+pub rungs_sent : (t : Table) (s : State) (fs : List Frame) (r : ℕ) → r < 32 → in_set (pass_all t s.core (begin_pass s.core) fs).sent r ≡ sent fs r
+rungs_sent t s fs r h = rw (gathers t s.core (begin_pass s.core) fs) (rungs_from_lem 0 fs r h ∙ rw (none_in r) (or-false (sent fs r)))
+
+-- ---- the try's own frames, counted up to 3
+counts_none : (n : ℕ) (fs : List Frame) → count_from Nothing n fs ≡ n
+counts_none n [] = refl
+counts_none n (f ∷ fs) = counts_none n fs
+
+counts : (r : Rung) (calls frames n : ℕ) (fs : List Frame) → n ≤ 3 → count_from (Running r calls frames) n fs ≡ min 3 (n + how_many (at r.0) fs)
+counts r calls frames n [] h = omega arith
+counts r calls frames n (f ∷ fs) h = go (at r.0 f) (λ k l. counts r calls frames k fs l)
+  where
+    go : (b : Bool)
+        → ((k : ℕ) → k ≤ 3 → count_from (Running r calls frames) k fs ≡ min 3 (k + how_many (at r.0) fs))
+        → count_from (Running r calls frames) (cond b (cond (ltb n 3) (suc n) n) n) fs ≡ min 3 (n + cond b (suc (how_many (at r.0) fs)) (how_many (at r.0) fs))
+    go true more =
+        elim (dec_lt n 3) [
+          | yes l ↦ rw (lt-ltb n 3 l) (more (suc n) l ∙ omega arith)
+          | no l ↦ let g : 3 ≤ n = omega arith in rw (le-ltb n 3 g) (more n h ∙ omega arith)
+        ]
+    go false more = more n h
+
+own_from : (y : Trying) (fs : List Frame) → count_from y 0 fs ≡ min 3 (own_frames fs y)
+own_from Nothing fs = counts_none 0 fs
+own_from (Running r calls frames) fs = counts r calls frames 0 fs (omega arith) ∙ ap (min 3) (zero-add (how_many (at r.0) fs))
+
+pub own_counted : (t : Table) (s : State) (fs : List Frame) → (pass_all t s.core (begin_pass s.core) fs).own ≡ min 3 (own_frames fs s.core.trying)
+own_counted t s fs = rw (gathers t s.core (begin_pass s.core) fs) (own_from s.core.trying fs)
+
+-- which is all that the end of a try asks of the count
+pub counted_to_3 : (t : Table) (p : Prices) (n : ℕ) (s : State) (y : Trying) → counted t p (min 3 n) s y ≡ counted t p n s y
+unfolding counted end_try
+counted_to_3 t p n s Nothing = refl
+counted_to_3 t p n s (Running r calls frames) =
+    elim (dec_lt n 3) [
+      | yes l ↦ let q : min 3 n ≡ n = omega arith in rw q refl
+      | no l ↦
+          let q : min 3 n ≡ 3 = omega arith in
+          let g : 3 ≤ frames + n = omega arith in
+          rw (q, le-leb 3 (frames + 3) (omega arith), le-leb 3 (frames + n) g, ne_eqb (frames + 3) 0 (λ e. omega arith), ne_eqb (frames + n) 0 (λ e. omega arith)) refl
+    ]
+
+-- ---- after the pass: judging the set of rungs sent, and counting the try, is judging and counting by the frames
+-- judging a rung leaves the running try
+judge_keeps : (t : Table) (p : Prices) (fs : List Frame) (s : State) (r : ℕ) → (judge_sent t p fs s r).core.trying ≡ s.core.trying
+unfolding judge_sent judge_try
+judge_keeps t p fs s r = go (to_judge t s fs r) (better t p s r)
+  where
+    go : (a b : Bool) → (cond a (cond b (with_wait s r 6) (with_time (with_wait s r (min 48 (2 * wait_of s r))) r f0)) s).core.trying ≡ s.core.trying
+    go true true = refl
+    go true false = refl
+    go false b = refl
+
+judging_keeps : (t : Table) (p : Prices) (fs : List Frame) (n r : ℕ) (s : State) → (judge_above n r t p fs s).core.trying ≡ s.core.trying
+unfolding judge_above
+judging_keeps t p fs zero r s = refl
+judging_keeps t p fs (suc n) r s = judging_keeps t p fs n (suc r) (judge_sent t p fs s r) ∙ judge_keeps t p fs s r
+
+module _ (t : Table) (p : Prices) (s : State) (fs : List Frame) where
+  try_kept : (judged t p s fs).core.trying ≡ s.core.trying
+  unfolding booked
+  try_kept = judging_keeps t p fs 32 0 (booked t s fs)
+
+  abbrev y : Pass
+  y = pass_all t s.core (begin_pass s.core) fs
+
+  sent_judged : judged_pass t p (booked_accounts t fs s) y ≡ judged t p s fs
+  sent_judged = judge_frames t p fs _ _ (rungs_sent t s fs) ∙ ap (judge_above 32 0 t p fs) (pass_books t s fs)
+
+  try_counted : counted t p y.own (judged t p s fs) (judged t p s fs).core.trying ≡ counted t p (own_frames fs (judged t p s fs).core.trying) (judged t p s fs) (judged t p s fs).core.trying
+  try_counted =
+      let b = judged t p s fs in
+      let q : y.own ≡ min 3 (own_frames fs b.core.trying) = own_counted t s fs ∙ ap (λ (x : Trying). min 3 (own_frames fs x)) (sym try_kept) in
+      ap (λ (n : ℕ). counted t p n b b.core.trying) q ∙ counted_to_3 t p (own_frames fs b.core.trying) b b.core.trying
+
+-- what is decided after the pass is what the rules decide: z is the state with its SNR smoothed, and its frames are booked
+pub decided : (t : Table) (p : Prices) (s : State) (fs : List Frame) (snr : Reading) → let z = observe_snr s snr in decided_pass t p (booked_accounts t fs z) (pass_all t z.core (begin_pass z.core) fs) ≡ decide t p (inside t p s fs snr)
+unfolding decided_pass inside
+decided t p s fs snr =
+    let z = observe_snr s snr in
+    let y = pass_all t z.core (begin_pass z.core) fs in
+    ap (λ (b : State). decide t p (counted t p y.own b b.core.trying)) (sent_judged t p z fs) ∙ ap (decide t p) (try_counted t p z fs)

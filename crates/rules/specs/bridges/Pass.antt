@@ -1,0 +1,127 @@
+-- A transmission in one pass: what a pass over the frames gathers, and what one frame does to it and to the accounts. The folds of Booking.antt and Tries.antt are what is
+-- right: proofs/Booked.antt shows that this one pass gives them all. Definitions only.
+use Rattle.std.specs.Prelude.{◌≡◌, Bool, true, false, not, ◌&&◌, ◌||◌, cond, ℕ, suc, ◌<◌, ◌^◌, ltb, T, List, Float, replicate, slice_index_or}
+use mathlib.Core.List.{foldl}
+use Rattle.std.specs.Int.Bits.{bit_or}
+use Rattle.std.specs.Float.Ieee.{lt, eq}
+use Rattle.float.specs.Numbers.{◌⊕◌, ◌⊗◌, ◌⊘◌, f0, f1}
+use Rattle.half.specs.Power.{half}
+use Rattle.limits.specs.declared.reading.Reading.{Reading}
+use Rattle.limits.specs.declared.reading.Reading.TheVariants.{Missing, Value}
+use Rattle.ladder.specs.declared.types.Rung.{Rung}
+use Rattle.ladder.specs.declared.types.Table.{Table}
+use Rattle.ladder.specs.Types.{rung, row, rung_at, rungs_of, places_of, is_floor}
+use Rattle.account.specs.declared.types.Mark.{Mark}
+use Rattle.account.specs.declared.types.Mark.TheVariants.{Nowhere, On}
+use Rattle.account.specs.declared.types.Offsets.{Offsets}
+use Rattle.account.specs.declared.types.Prices.{Prices}
+use Rattle.account.specs.declared.types.State.{State}
+use Rattle.account.specs.declared.types.Trying.{Trying}
+use Rattle.account.specs.declared.types.Trying.TheVariants.{Nothing, Running}
+use Rattle.account.specs.declared.types.Core.{Core}
+use Rattle.rules.specs.Booking.{Frame, at, f12, offset_step, book, passed}
+use Rattle.rules.specs.Tries.{Decided, counted, decide}
+use Rattle.rules.specs.bridges.Sets.{judge_set}
+pub use Rattle.rules.specs.declared.accounts.Fade.{Fade}
+pub use Rattle.rules.specs.declared.accounts.Fades.{Fades}
+pub use Rattle.rules.specs.declared.marks.Marks.{Marks}
+pub use Rattle.rules.specs.declared.pass.Pass.{Pass}
+
+-- ---- "32-bit set": with one rung more; a number past 31 is no digit of it
+abbrev pub add_rung : ℕ → ℕ → ℕ
+add_rung set r = cond (ltb r 32) (bit_or set (2 ^ r)) set
+
+-- ---- ageing
+-- "other rungs age by half(air/(12 × own frame time))"
+abbrev pub factor : Float → Float → Float
+factor air time = half (air ⊘ (f12 ⊗ time))
+
+-- rungs of one frame time share it: the last one where the frame time is the last one's, above 0; else a new one
+abbrev pub fade_at : Float → Float → Fade → Fade
+fade_at air time last = cond (lt f0 last.time && eq time last.time) last (record { time = time; by = factor air time })
+
+-- the factors of all rungs in use are those for a frame of so much air
+abbrev pub Fading : Table → Float → Fades → Type 0
+Fading t air d = (r : ℕ) → r < rungs_of t → slice_index_or d.by r f1 ≡ factor air (row t r).time
+
+-- and those kept since a frame are those of its air, if there was one
+abbrev pub Kept : Table → Fades → Type 0
+Kept t d = T (lt f0 d.air) → Fading t d.air d
+
+abbrev pub no_fades : Fades
+no_fades = record { by = replicate 32 f1; air = f0 }
+
+-- ---- offsets: "with SNR known"
+abbrev pub offsets_by : Table → Reading → Frame → Offsets → Offsets
+offsets_by t Missing f o = o
+offsets_by t (Value snr) f o = offset_step t snr f o
+
+-- ---- marks
+abbrev pub no_marks : Marks
+no_marks = record { ofdm = false; heard = false; chosen = false; alone = true }
+
+-- "a list with OFDM frames sets the failed mark if none of them is decoded, else clears it": whether one was sent, and whether one was decoded
+abbrev pub mark_family : Table → Frame → Marks → Marks
+mark_family t f m = cond (is_floor t f.rung.0) m (record m { ofdm = true; heard = m.heard || f.decoded })
+
+-- "some frame at the choice, and each of them decoded alone": whether one went there, and whether each did
+abbrev pub mark_choice : ℕ → Frame → Marks → Marks
+mark_choice here f m = cond (at here f) (record m { chosen = true; alone = m.alone && (f.decoded && not f.combined) }) m
+
+-- after the pass: the failed mark, and the clean mark
+abbrev pub family_mark : Marks → Bool → Bool
+family_mark m failed = cond m.ofdm (not m.heard) failed
+
+abbrev pub choice_mark : Marks → Rung → Mark
+choice_mark m here = cond (m.chosen && m.alone) (On here) Nowhere
+
+-- ---- the try's own frames: "over at 3 frames", so it counts no further
+abbrev pub is_own : Trying → Frame → Bool
+is_own Nothing f = false
+is_own (Running r calls frames) f = at r.0 f
+
+abbrev pub count_own : Trying → Frame → ℕ → ℕ
+count_own y f n = cond (is_own y f) (cond (ltb n 3) (suc n) n) n
+
+-- ---- the pass
+-- before the first frame; the core's SNR is smoothed already
+abbrev pub begin_pass : Core → Pass
+begin_pass c = record { sent = 0; offsets = c.offsets; air = f0; own = 0; marks = no_marks }
+
+-- the choice's rung, by the core alone
+abbrev pub here_of : Table → Core → ℕ
+here_of t c = rung_at t c.place.0
+
+-- one frame
+unfoldable pub pass_step : Table → Core → Pass → Frame → Pass
+pass_step t c y f = record {
+  sent = add_rung y.sent f.rung.0;
+  offsets = offsets_by t c.snr f y.offsets;
+  air = y.air ⊕ f.air;
+  own = count_own c.trying f y.own;
+  marks = mark_choice (here_of t c) f (mark_family t f y.marks);
+}
+
+-- all of them, in order
+abbrev pub pass_all : Table → Core → Pass → List Frame → Pass
+pass_all t c = foldl (pass_step t c)
+
+-- a state whose accounts alone the frames moved
+abbrev pub booked_accounts : Table → List Frame → State → State
+booked_accounts t fs s = record s { accounts = book t fs s.accounts }
+
+-- ---- after the pass
+abbrev pub finish_core : Table → Core → Pass → Core
+finish_core t c y =
+    record c { offsets = y.offsets; failed = family_mark y.marks c.failed; clean = choice_mark y.marks (rung (here_of t c)) }
+
+-- what it leaves of the state, the accounts being booked already
+unfoldable pub finish_pass : Table → State → Pass → State
+finish_pass t s y = record s { since = passed (places_of t) 0 t y.air s.since; core = finish_core t s.core y }
+
+-- then the rungs sent are judged, a running try is counted, and `decide` has the last word
+abbrev pub judged_pass : Table → Prices → State → Pass → State
+judged_pass t p s y = judge_set y.sent t p (finish_pass t s y)
+
+unfoldable pub decided_pass : Table → Prices → State → Pass → Decided
+decided_pass t p s y = decide t p (counted t p y.own (judged_pass t p s y) (judged_pass t p s y).core.trying)

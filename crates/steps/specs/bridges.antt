@@ -1,3 +1,0 @@
-pub mod Held
-pub mod Moved
-pub mod Pass
