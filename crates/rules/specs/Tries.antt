@@ -79,8 +79,11 @@ pub record Decided : Type 0 where
   pub state : State
   pub begun : Bool
 
+abbrev pub decided : State → Bool → Decided
+decided s begun = record { state = s; begun = begun }
+
 abbrev pub still : State → Decided
-still s = record { state = s; begun = false }
+still s = decided s false
 
 -- "among echo-allowed places at or below the choice, or above with over 2 decayed frames"
 abbrev pub candidate : Table → State → ℕ → Bool

@@ -1,21 +1,16 @@
-use Rattle.std.specs.Prelude.{◌≡◌, ℕ, ◌-◌, ◌≤◌, Bool, not, ◌&&◌}
-use Rattle.limits.specs.declared.reading.Reading.{Reading}
+-- What is left of the walk gives what the whole walk gives.
+use Rattle.std.proofs.Common.{◌≡◌, ◌-◌, ℕ, Bool, not, ◌&&◌}
 use Rattle.ladder.specs.declared.types.Table.{Table}
+use Rattle.account.specs.declared.types.State.{State}
+use Rattle.ladder.specs.Types.{rung_at}
 use Rattle.ladder.specs.Lists.{some_from}
-use Rattle.ladder.specs.Types.{row, rung_at, places_of, is_floor}
-use Rattle.rules.specs.Echo.{over}
-use Rattle.steps.specs.bridges.Held.{laid}
+use Rattle.ladder.specs.Types.{places_of}
+use Rattle.rules.specs.Echo.{ofdm_at, out}
 use Rattle.steps.proofs.echo.has_ofdm_in.Given as goal
 
--- a rung that is OFDM and not out
-abbrev pub clear : Table → Reading → ℕ → Bool
-clear t e r = not (is_floor t r) && not (over (row t r).limit e)
-
-abbrev pub inside : Table → Reading → ℕ → Bool
-inside t e i = clear t e (rung_at t i)
+-- whether the rung at a place is OFDM and not out
+abbrev pub ofdm_in : Table → State → ℕ → Bool
+ofdm_in t s i = ofdm_at t i && not (out t s (rung_at t i))
 
 abbrev pub invariant-loop-i : goal.invariant-loop-i
-invariant-loop-i l = (l.i ≤ places_of (laid l.t l.reals l.wholes)) × (some_from (places_of (laid l.t l.reals l.wholes) - l.i) l.i (inside (laid l.t l.reals l.wholes) l.echo) ≡ some_from (places_of (laid l.t l.reals l.wholes)) 0 (inside (laid l.t l.reals l.wholes) l.echo))
-
-abbrev pub decreases-loop-i : goal.decreases-loop-i
-decreases-loop-i l = places_of (laid l.t l.reals l.wholes) - l.i
+invariant-loop-i l = some_from (places_of l.t - l.i) l.i (ofdm_in l.t l.s) ≡ some_from (places_of l.t) 0 (ofdm_in l.t l.s)

@@ -1,11 +1,8 @@
-use Rattle.std.specs.Prelude.{◌≡◌, ◌-◌, ◌≤◌}
-use Rattle.ladder.specs.declared.types.Table.{Table}
+-- What is left of the walk gives what the whole walk gives.
+use Rattle.std.proofs.Common.{◌≡◌, ◌-◌}
+use Rattle.ladder.specs.Types.{places_of}
 use Rattle.rules.specs.Tries.{place_from}
-use Rattle.steps.specs.bridges.Held.{front_in}
 use Rattle.steps.proofs.judge.place_of.Given as goal
 
 abbrev pub invariant-loop-i : goal.invariant-loop-i
-invariant-loop-i l = (l.i ≤ l.places) × ((k : Table) → k.front ≡ front_in l.wholes → place_from (l.places - l.i) l.i k l.r.0 l.d ≡ place_from l.places 0 k l.r.0 l.d)
-
-abbrev pub decreases-loop-i : goal.decreases-loop-i
-decreases-loop-i l = l.places - l.i
+invariant-loop-i l = place_from (places_of l.t - l.i) l.i l.t l.r.0 l.d ≡ place_from (places_of l.t) 0 l.t l.r.0 l.d

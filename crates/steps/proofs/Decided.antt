@@ -1,0 +1,17 @@
+-- The value found with the best place is the choice's, once that place is taken: no value looks at the place. Assumes nothing.
+use Rattle.std.specs.Prelude.{◌≡◌, Float}
+use mathlib.Core.Path.{subst}
+use Rattle.ladder.specs.declared.types.Place.{Place}
+use Rattle.ladder.specs.declared.types.Table.{Table}
+use Rattle.ladder.specs.Types.{places_of}
+use Rattle.account.specs.declared.types.Prices.{Prices}
+use Rattle.account.specs.declared.types.State.{State}
+use Rattle.account.specs.State.{choice, with_place}
+use Rattle.account.specs.Price.{value, estimate_at}
+use Rattle.rules.specs.declared.lowest.Best.TheVariants.{NoneYet, Found}
+use Rattle.rules.specs.Tries.{candidate, choose}
+use Rattle.rules.proofs.Greatest.{worth, Valued, keeps}
+
+pub chosen : (t : Table) (p : Prices) (s : State) (i : Place) (v : Float) → choose t p s ≡ Found i v → v ≡ value t p (with_place s i.0) (choice t (with_place s i.0))
+unfolding choose value estimate_at
+chosen t p s i v e = subst (Valued (candidate t s) (worth t p s)) e (keeps (candidate t s) (worth t p s) (places_of t) 0 NoneYet tt)
