@@ -34,3 +34,17 @@ pub untouched : (k : RateController) (c : Call) (why : Refusal) → (step k c).v
 untouched k c why =
     by_verdict k c (λ (a : Answer). a.verdict ≡ Refused why → (a.controller ≡ k) × (a.ended ≡ false) × (a.begun ≡ false))
     (λ e h. let z : ◌≡◌ {A = ℕ} 0 1 = cc (accepted_says k c) in absurd (omega arith)) (λ w h. (refl, refl, refl))
+
+-- no call changes the table
+pub table_kept : (k : RateController) (c : Call) → (step k c).controller.table ≡ k.table
+unfolding accepted
+table_kept k c = by_verdict k c (λ (a : Answer). a.controller.table ≡ k.table) (λ e. same k c) (λ why. refl)
+  where
+    same : (k : RateController) (c : Call) → (accepted k c).controller.table ≡ k.table
+    same k (Frames fs snr) = refl
+    same k (Echo share snr) = refl
+    same k (Silence steps) = refl
+    same k (Snr snr) = refl
+    same k (Seed snr) = refl
+    same k (Price floor ordinary gap bursts) = refl
+    same k (Family own other) = refl

@@ -1,2 +1,1 @@
-pub mod Frames
-pub mod Playing
+pub mod Outcomes

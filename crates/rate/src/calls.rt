@@ -1,22 +1,34 @@
-// The calls that change a controller. Each promises `step` of specs/Calls.antt, which the waiting theorem speaks of.
-ghost use Rattle.std.specs.Prelude.{◌≡◌};
-ghost use Rattle.rate.specs.Calls.{step, Snr, Silence, Seed, Echo, Family};
+// The calls that change a controller, by value: each is the call in place, on the controller that was handed over.
+ghost use Rattle.std.specs.Prelude.{◌≡◌, [], ◌∷◌};
+ghost use Rattle.rate.specs.Calls.{step, Snr, Silence, Seed, Echo, Family, Frames, Price};
+ghost use Rattle.rate.specs.bridges.Outcomes.{answer_of};
 
-use crate::answers::answer;
-use crate::types::{Answer, RateController};
-use account::types::{Families, Prices};
+use crate::moves;
+use crate::types::{Answer, Outcome, RateController};
 use limits::reading::Reading;
-use steps::read::{lay_accounts, lay_table};
+use rules::accounts::Fades;
+use rules::types::Frame;
 
-// A controller is laid out as slices, the call is made in place, and what it moved is put together again.
+// A controller as a call left it, with what the call said.
+fn answer(k: RateController, o: Outcome) -> Answer
+    ensures { result ≡ answer_of k o }
+{
+    Answer {
+        controller: k,
+        verdict: o.verdict,
+        ended: o.ended,
+        begun: o.begun,
+    }
+}
+
 impl RateController {
     // Takes an SNR reading and nothing else. Refused: 8.
     pub fn observe_snr(self, snr: Reading) -> Answer
         ensures { result ≡ step self (Snr snr) }
     {
-        let s = self.state;
-        let c = s.core;
-        answer(self, steps::calls::observe_snr(c, snr))
+        let mut k = self;
+        let o = moves::observe_snr(&mut k, snr);
+        answer(k, o)
     }
 
     // A burst's counts: only its SNR is read. Refused: 8.
@@ -30,65 +42,73 @@ impl RateController {
     pub fn silent(self, steps: u32) -> Answer
         ensures { result ≡ step self (Silence steps) }
     {
-        let t = self.table;
-        let s = self.state;
-        let air = t.air;
-        let c = s.core;
-        let mut reals = [0.0f64; 96];
-        let mut wholes = [0u32; 96];
-        lay_table(t, &mut reals, &mut wholes);
-        let m = steps::calls::silent(air, &reals, &wholes, c, steps);
-        answer(self, m)
+        let mut k = self;
+        let o = moves::silent(&mut k, steps);
+        answer(k, o)
     }
 
     // Starts from the connect frame's reading, before any SNR is known. Refused: 8.
     pub fn seed(self, snr_db: f64) -> Answer
         ensures { result ≡ step self (Seed snr_db) }
     {
-        let t = self.table;
-        let p = self.prices;
-        let s = self.state;
-        let air = t.air;
-        let c = s.core;
-        let accounts = s.accounts;
-        let mut reals = [0.0f64; 96];
-        let mut wholes = [0u32; 96];
-        lay_table(t, &mut reals, &mut wholes);
-        let mut books = [0.0f64; 96];
-        lay_accounts(accounts, &mut books);
-        let m = steps::calls::seed(air, p, &reals, &wholes, &books, c, snr_db);
-        answer(self, m)
+        let mut k = self;
+        let o = moves::seed(&mut k, snr_db);
+        answer(k, o)
     }
 
     // A frame's echo reading: a try of a rung that it rules out ends, and so does a choice. Refused: 8.
     pub fn observe_echo(self, share: Reading, snr_db: f64) -> Answer
         ensures { result ≡ step self (Echo share snr_db) }
     {
-        let t = self.table;
-        let p = self.prices;
-        let s = self.state;
-        let air = t.air;
-        let c = s.core;
-        let accounts = s.accounts;
-        let mut reals = [0.0f64; 96];
-        let mut wholes = [0u32; 96];
-        lay_table(t, &mut reals, &mut wholes);
-        let mut books = [0.0f64; 96];
-        lay_accounts(accounts, &mut books);
-        let m = steps::calls::observe_echo(air, p, &reals, &wholes, &books, c, share, snr_db);
-        answer(self, m)
+        let mut k = self;
+        let o = moves::observe_echo(&mut k, share, snr_db);
+        answer(k, o)
+    }
+
+    // The frames of one transmission, and its SNR reading. Refused: 6, 7, 8.
+    pub fn observe_frames(self, frames: &[Frame], snr: Reading) -> Answer
+        ensures { result ≡ step self (Frames frames.now snr) }
+    {
+        let mut k = self;
+        let mut fades = Fades::none();
+        let o = moves::observe_frames(&mut k, &mut fades, frames, snr);
+        answer(k, o)
+    }
+
+    // A transmission of one frame, for a caller that holds it by itself. Refused: 6, 8.
+    pub fn observe_frame(self, frame: Frame, snr: Reading) -> Answer
+        ensures { result ≡ step self (Frames (frame ∷ []) snr) }
+    {
+        self.observe_frames(&[frame], snr)
     }
 
     // The families that both stations' control frames go in now.
     pub fn set_families(self, own_floor: bool, other_floor: bool) -> Answer
         ensures { result ≡ step self (Family own_floor other_floor) }
     {
-        let old = self.prices;
-        let tariff = old.tariff;
-        let p = Prices {
-            tariff,
-            families: Families::Set(own_floor, other_floor),
-        };
-        crate::answers::repriced(self, p)
+        let mut k = self;
+        let o = moves::set_families(&mut k, own_floor, other_floor);
+        answer(k, o)
+    }
+
+    // Ranks the rungs per second of a whole exchange. Refused: 8, then 9.
+    pub fn price_exchanges(
+        self,
+        control_floor_s: f64,
+        control_ordinary_s: f64,
+        gap_s: f64,
+        burst_frames: &[u32],
+    ) -> Answer
+        ensures { result ≡ step self (Price control_floor_s control_ordinary_s gap_s burst_frames.now) }
+    {
+        let mut k = self;
+        let o = moves::price_exchanges(
+            &mut k,
+            control_floor_s,
+            control_ordinary_s,
+            gap_s,
+            burst_frames,
+        );
+        answer(k, o)
     }
 }

@@ -1,10 +1,9 @@
-// The sender's rate controller: every call of the source's `RateController`, by value, with its refusals and marks.
+// The sender's rate controller: every call of the source's `RateController`, by value, with its refusals and marks; and the same calls in place, for whoever plays many.
 #![tactic(auto)]
 
-pub mod answers;
 pub mod calls;
-pub mod frames;
 pub mod make;
-pub mod prices;
+pub mod moves;
+pub mod player;
 pub mod reads;
 pub mod types;

@@ -12,17 +12,16 @@ use limits::reading::Reading;
 pub fn fresh(t: Table) -> RateController
     ensures { result ≡ fresh_controller t }
 {
-    let prices = account::state::unpriced_prices();
-    let state = account::state::fresh_state();
     RateController {
         table: t,
-        prices,
-        state,
+        prices: account::state::unpriced_prices(),
+        state: account::state::fresh_state(),
     }
 }
 
 impl RateController {
     // One for an air's table. Refused: 1 to 5.
+    #[tactic(auto, unfolding(crate::specs::Reads::made))]
     pub fn for_table(
         thresholds: &[f64],
         payload: &[u32],
@@ -43,27 +42,20 @@ impl RateController {
             echo_limit,
             limited,
         );
-        let verdict = m.verdict;
-        let t = m.table;
-        let controller = fresh(t);
         Made {
-            verdict,
-            controller,
+            verdict: m.verdict,
+            controller: fresh(m.table),
         }
     }
 
     // The same controller with the settings of its air.
+    #[tactic(auto, unfolding(crate::specs::Reads::for_air_of))]
     pub fn for_air(self, wide: bool) -> RateController
         ensures { result ≡ for_air_of self wide }
     {
-        let t = self.table;
-        let prices = self.prices;
-        let state = self.state;
-        let table = ladder::table::for_air(t, wide);
         RateController {
-            table,
-            prices,
-            state,
+            table: ladder::table::for_air(self.table, wide),
+            ..self
         }
     }
 }

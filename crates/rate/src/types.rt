@@ -11,7 +11,15 @@ pub struct RateController {
     pub state: State,
 }
 
-// What a changing call leaves and returns: refused or not, and the marks *ended* (a running try was ended) and *begun*.
+// What a changing call says: refused or not, and the marks *ended* (a running try was ended) and *begun*.
+#[derive(Clone, Copy)]
+pub struct Outcome {
+    pub verdict: Verdict,
+    pub ended: bool,
+    pub begun: bool,
+}
+
+// What a changing call by value leaves and returns.
 #[derive(Clone, Copy)]
 pub struct Answer {
     pub controller: RateController,

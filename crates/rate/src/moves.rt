@@ -1,0 +1,251 @@
+// The calls that change a controller, in place. Each promises `step` of specs/Calls.antt, which the waiting theorem speaks of.
+ghost use Rattle.std.specs.Prelude.{◌≡◌, ◌≤◌, ◌&&◌, false, length};
+ghost use Rattle.limits.specs.Refusals.{unless};
+ghost use Rattle.limits.specs.Readings.{ok_snr};
+ghost use Rattle.limits.specs.Values.{ok_length, ok_burst};
+ghost use Rattle.limits.specs.declared.refusal.Refusal.TheVariants.{OutsideLimits};
+ghost use Rattle.limits.specs.declared.refusal.Verdict.TheVariants.{Accepted};
+ghost use Rattle.ladder.specs.Lists.{every, filled};
+ghost use Rattle.rules.specs.bridges.Pass.{Kept};
+ghost use Rattle.rate.specs.Calls.{accepted, step, Snr, Silence, Seed, Echo, Family, Frames, Price, tariff_of};
+ghost use Rattle.rate.specs.bridges.Outcomes.{answer_of, done_outcome, refused_outcome, frames_verdict};
+
+use crate::types::{Outcome, RateController};
+use account::state::was_ended;
+use account::types::{Families, State, Tariff, Trying};
+use limits::reading::Reading;
+use limits::refusal::{Refusal, Verdict};
+use rules::accounts::Fades;
+use rules::check::{Check, check_frames};
+use rules::pass::book_frames;
+use rules::types::Frame;
+
+// The longest list of frames that is accepted, and of burst counts.
+const MOST_FRAMES: u32 = 256;
+
+const MOST_BURSTS: usize = 32;
+
+// ---- what a call says
+// Accepted: the marks say what became of the try that ran before.
+fn done(before: Trying, s: &State, begun: bool) -> Outcome
+    ensures { result ≡ done_outcome before s.now begun }
+{
+    Outcome {
+        verdict: Verdict::Accepted,
+        ended: was_ended(before, s.core.trying, begun),
+        begun,
+    }
+}
+
+// Refused: nothing is moved.
+pub fn refused(why: Refusal) -> Outcome
+    ensures { result ≡ refused_outcome why }
+{
+    Outcome {
+        verdict: Verdict::Refused(why),
+        ended: false,
+        begun: false,
+    }
+}
+
+// Accepted, and no try was touched.
+fn unmarked() -> Outcome
+    ensures { result ≡ record { verdict = Accepted; ended = false; begun = false } }
+{
+    Outcome {
+        verdict: Verdict::Accepted,
+        ended: false,
+        begun: false,
+    }
+}
+
+// ---- readings and silence
+// Takes an SNR reading and nothing else. Refused: 8.
+#[tactic(auto, unfolding(crate::specs::Calls::step, crate::specs::Calls::accepted, crate::specs::Calls::verdict))]
+pub fn observe_snr(k: &mut RateController, snr: Reading) -> Outcome
+    ensures { answer_of k.new result ≡ step k.old (Snr snr) }
+{
+    if !limits::reading::ok_snr(snr) {
+        return refused(Refusal::OutsideLimits);
+    }
+    let before = k.state.core.trying;
+    steps::echo::observe_snr(&mut k.state, snr);
+    done(before, &k.state, false)
+}
+
+// Transmissions went unanswered: a try ends, and the choice steps down.
+#[tactic(auto, unfolding(crate::specs::Calls::step, crate::specs::Calls::accepted, crate::specs::Calls::verdict))]
+pub fn silent(k: &mut RateController, steps: u32) -> Outcome
+    ensures { answer_of k.new result ≡ step k.old (Silence steps) }
+{
+    let before = k.state.core.trying;
+    steps::echo::silent(&k.table, &mut k.state, steps);
+    done(before, &k.state, false)
+}
+
+// Starts from the connect frame's reading, before any SNR is known. Refused: 8.
+#[tactic(auto, unfolding(crate::specs::Calls::step, crate::specs::Calls::accepted, crate::specs::Calls::verdict))]
+pub fn seed(k: &mut RateController, snr_db: f64) -> Outcome
+    ensures { answer_of k.new result ≡ step k.old (Seed snr_db) }
+{
+    if !limits::values::ok_db(snr_db) {
+        return refused(Refusal::OutsideLimits);
+    }
+    let before = k.state.core.trying;
+    steps::echo::seed(&k.table, &k.prices, &mut k.state, snr_db);
+    done(before, &k.state, false)
+}
+
+// A frame's echo reading: a try of a rung that it rules out ends, and so does a choice. Refused: 8.
+#[tactic(auto, unfolding(crate::specs::Calls::step, crate::specs::Calls::accepted, crate::specs::Calls::verdict))]
+pub fn observe_echo(k: &mut RateController, share: Reading, snr_db: f64) -> Outcome
+    ensures { answer_of k.new result ≡ step k.old (Echo share snr_db) }
+{
+    if !limits::reading::ok_echo(share, snr_db) {
+        return refused(Refusal::OutsideLimits);
+    }
+    let before = k.state.core.trying;
+    steps::echo::observe_echo(&k.table, &k.prices, &mut k.state, share, snr_db);
+    done(before, &k.state, false)
+}
+
+// ---- frames
+// An SNR reading. Refused: 8.
+fn snr_verdict(snr: Reading) -> Verdict
+    ensures { result ≡ unless (ok_snr snr) OutsideLimits }
+{
+    if limits::reading::ok_snr(snr) {
+        Verdict::Accepted
+    } else {
+        Verdict::Refused(Refusal::OutsideLimits)
+    }
+}
+
+// The whole call: 7 first, then the first bad frame, then the SNR.
+#[tactic(auto, unfolding(crate::specs::bridges::Outcomes::frames_verdict))]
+fn frames_verdict(v: Check, snr: Reading) -> Verdict
+    ensures { result ≡ frames_verdict v snr }
+{
+    if v.count > MOST_FRAMES {
+        return Verdict::Refused(Refusal::TooManyFrames);
+    }
+    limits::refusal::or_else(v.verdict, snr_verdict(snr))
+}
+
+// Accepted: of an empty list only the SNR is taken. `fades` are the ageing factors of the last frame before.
+fn accept_frames(
+    k: &mut RateController,
+    fades: &mut Fades,
+    frames: &[Frame],
+    snr: Reading,
+) -> Outcome
+    requires { Kept k.old.table fades.old }
+    ensures answer { answer_of k.new result ≡ accepted k.old (Frames frames.now snr) }
+    ensures kept { Kept k.old.table fades.new }
+{
+    let s = &mut k.state;
+    let before = s.core.trying;
+    steps::echo::observe_snr(s, snr);
+    if frames.len() == 0 {
+        return done(before, s, false);
+    }
+    let pass = book_frames(&k.table, s, fades, frames);
+    let begun = steps::frames::transmit(&k.table, &k.prices, s, &pass);
+    done(before, s, begun)
+}
+
+// The frames of one transmission, and its SNR reading: one thin pass checks the frames, and one books them. Refused: 6, 7, 8.
+pub fn observe_frames(
+    k: &mut RateController,
+    fades: &mut Fades,
+    frames: &[Frame],
+    snr: Reading,
+) -> Outcome
+    requires { Kept k.old.table fades.old }
+    ensures answer { answer_of k.new result ≡ step k.old (Frames frames.now snr) }
+    ensures kept { Kept k.old.table fades.new }
+{
+    match frames_verdict(check_frames(&k.table, frames), snr) {
+        Verdict::Accepted => accept_frames(k, fades, frames, snr),
+        Verdict::Refused(why) => refused(why),
+    }
+}
+
+// ---- prices and families
+// The families that both stations' control frames go in now.
+#[tactic(auto, unfolding(crate::specs::Calls::step, crate::specs::Calls::accepted, crate::specs::Calls::verdict))]
+pub fn set_families(k: &mut RateController, own_floor: bool, other_floor: bool) -> Outcome
+    ensures { answer_of k.new result ≡ step k.old (Family own_floor other_floor) }
+{
+    k.prices.families = Families::Set(own_floor, other_floor);
+    unmarked()
+}
+
+// Whether the two control lengths and the gap are within their limits.
+pub fn ok_lengths(floor: f64, ordinary: f64, gap: f64) -> bool
+    ensures { result ≡ (ok_length floor && ok_length ordinary && ok_length gap) }
+{
+    limits::values::ok_length(floor)
+        && limits::values::ok_length(ordinary)
+        && limits::values::ok_length(gap)
+}
+
+// Whether each burst count is within its limits.
+fn all_bursts(bursts: &[u32]) -> bool
+    ensures { result ≡ every ok_burst bursts.now }
+{
+    for n in bursts {
+        if !limits::values::ok_burst(*n) {
+            return false;
+        }
+    }
+    true
+}
+
+// The burst counts as an array, with 0 past the last; 32 at most are handed over.
+fn burst_array(bursts: &[u32]) -> [u32; 32]
+    requires { length bursts.now ≤ 32 }
+    ensures { result ≡ filled 0 bursts.now }
+{
+    let mut held = [0; 32];
+    for i in 0..bursts.len() {
+        held[i] = bursts[i];
+    }
+    held
+}
+
+// The tariff of these lengths and counts; 32 counts at most are handed over.
+fn tariff_of(floor: f64, ordinary: f64, gap: f64, bursts: &[u32]) -> Tariff
+    requires { length bursts.now ≤ 32 }
+    ensures { result ≡ tariff_of floor ordinary gap bursts.now }
+{
+    Tariff {
+        given: true,
+        floor,
+        ordinary,
+        gap,
+        bursts: burst_array(bursts),
+        counted: bursts.len() as u32,
+    }
+}
+
+// Ranks the rungs per second of a whole exchange. Refused: 8, then 9.
+#[tactic(auto, unfolding(crate::specs::Calls::step, crate::specs::Calls::accepted, crate::specs::Calls::verdict))]
+pub fn price_exchanges(
+    k: &mut RateController,
+    control_floor_s: f64,
+    control_ordinary_s: f64,
+    gap_s: f64,
+    burst_frames: &[u32],
+) -> Outcome
+    ensures { answer_of k.new result ≡ step k.old (Price control_floor_s control_ordinary_s gap_s burst_frames.now) }
+{
+    if !(ok_lengths(control_floor_s, control_ordinary_s, gap_s) && all_bursts(burst_frames)) {
+        return refused(Refusal::OutsideLimits);
+    }
+    if burst_frames.len() > MOST_BURSTS {
+        return refused(Refusal::TooManyBursts);
+    }
+    k.prices.tariff = tariff_of(control_floor_s, control_ordinary_s, gap_s, burst_frames);
+    unmarked()
+}
