@@ -6,7 +6,7 @@ ghost use Rattle.limits.specs.Values.{ok_db, ok_slope, ok_air, ok_length, ok_byt
 fn is_within(lo: f64, hi: f64, x: f64) -> bool
     ensures { result ≡ within lo hi x }
 {
-    if x >= lo { x <= hi } else { false }
+    (lo..=hi).contains(&x)
 }
 
 // A value in dB.
