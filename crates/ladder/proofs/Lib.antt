@@ -4,6 +4,7 @@ pub mod Arrays
 pub mod Ranges
 pub mod Filling
 pub mod Tabulating
+pub mod Worths
 pub mod Accepted
 pub mod Refusals
 pub mod Ascending

@@ -2,9 +2,10 @@
 use mathlib.Core.Path.{◌≡◌, refl}
 use mathlib.Core.Bool.{Bool, true, false}
 use mathlib.Core.List.{[], ◌∷◌}
-use Prim.Native.Nat.{ℕ, suc, ◌+◌, ◌-◌, ◌<◌, ◌≤◌}
+use Prim.Native.Nat.{ℕ, zero, suc, ◌+◌, ◌-◌, ◌<◌, ◌≤◌}
 use native.Mathlib.Numerals.{add-one}
 use native.Mathlib.Omega.{arith}
+use Rattle.std.specs.List.{list_any, range_with_len}
 use Rattle.ladder.specs.Lists.{select, some_from}
 
 module _ (f : ℕ → Bool) (n i : ℕ) where
@@ -33,3 +34,13 @@ module _ (f : ℕ → Bool) (n i : ℕ) where
 
   pub select_nothing : n ≤ i → select (n - i) i f ≡ []
   select_nothing h = rw (none_left h) refl
+
+-- over a range of numbers `any` is `some_from`
+pub list_any-range : (f : ℕ → Bool) (n i : ℕ) → list_any f (range_with_len i n) ≡ some_from n i f
+list_any-range f zero i = refl
+list_any-range f (suc n) i = rw (add-one i, list_any-range f n (suc i)) refl
+
+-- tests that agree on a range
+pub some_agree : (f g : ℕ → Bool) (n i : ℕ) → ((k : ℕ) → k < i + n → f k ≡ g k) → some_from n i f ≡ some_from n i g
+some_agree f g zero i h = refl
+some_agree f g (suc n) i h = rw (h i (omega arith), some_agree f g n (suc i) (λ k less. h k (omega arith))) refl

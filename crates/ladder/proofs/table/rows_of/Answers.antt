@@ -1,30 +1,12 @@
--- Each turn stores its rung's row.
-use mathlib.Core.Path.{refl}
-use mathlib.Core.List.{[]}
-use native.Mathlib.Omega.{arith}
-use lib.ListN.{replicate}
-use Rattle.ladder.specs.Tables.{columns, row_of, rows_of}
-use Rattle.ladder.proofs.Tabulating.{tabulating_starts, tabulating_stores, tabulating_ends}
+-- The closure answers each rung's row.
+use Rattle.std.proofs.Common.{rules}
+use Rattle.ladder.specs.bridges.Lent.{lent}
+use Rattle.ladder.specs.Types.{no_row}
+use Rattle.ladder.specs.Tables.{row_of, rows_of}
+use Rattle.ladder.proofs.Tabulating.{tabulated}
 use Rattle.ladder.proofs.table.rows_of.Goals as goal
-
-pub loop-r-init : goal.loop-r-init
-loop-r-init c =
-    let a = c.args in
-    let row = row_of (columns a.thresholds.now [] a.capacities.now a.times.now 0 a.limits a.limited) in
-    tabulating_starts row 32 (replicate 32 c.no_row-row.result) refl
-
-pub loop-r-smaller : goal.loop-r-smaller
-loop-r-smaller c = omega arith
-
-pub loop-r-preserved : goal.loop-r-preserved
-loop-r-preserved c =
-    let a = c.args in
-    let row = row_of (columns a.thresholds.now [] a.capacities.now a.times.now 0 a.limits a.limited) in
-    tabulating_stores row 32 c.loop-r.r c.loop-r.rows c.loop-r.invariant c.row_at-row.result (omega arith) c.row_at-row.ensures
 
 pub returns : goal.returns
 unfolding rows_of
 returns c =
-    let a = c.args in
-    let row = row_of (columns a.thresholds.now [] a.capacities.now a.times.now 0 a.limits a.limited) in
-    tabulating_ends row 32 c.loop-r.r c.loop-r.rows c.loop-r.invariant (omega arith)
+    tabulated _ _ (row_of (lent c.args.c.now)) (λ i y q k. search rules) c.from_fn.result 32 no_row c.from_fn.ensures.items
