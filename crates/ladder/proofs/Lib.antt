@@ -6,7 +6,6 @@ pub mod Filling
 pub mod Tabulating
 pub mod Worths
 pub mod Accepted
-pub mod Refusals
 pub mod Ascending
 pub mod Cases
 pub mod Entries

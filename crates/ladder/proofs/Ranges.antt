@@ -17,20 +17,11 @@ module _ (f : ℕ → Bool) (n i : ℕ) where
 
   -- `r` is what the test said of i
   module _ (r : Bool) (h : i < n) (e : r ≡ f i) where
-    pub some_here : r ≡ true → true ≡ some_from (n - i) i f
-    some_here q = rw (left h, ← e, q) refl
-
-    pub some_later : r ≡ false → some_from (n - (i + 1)) (i + 1) f ≡ some_from (n - i) i f
-    some_later q = rw (left h, ← e, q, add-one i) refl
-
     pub select_here : r ≡ true → select (n - i) i f ≡ i ∷ select (n - (i + 1)) (i + 1) f
     select_here q = rw (left h, ← e, q, add-one i) refl
 
     pub select_later : r ≡ false → select (n - i) i f ≡ select (n - (i + 1)) (i + 1) f
     select_later q = rw (left h, ← e, q, add-one i) refl
-
-  pub some_nowhere : n ≤ i → false ≡ some_from (n - i) i f
-  some_nowhere h = rw (none_left h) refl
 
   pub select_nothing : n ≤ i → select (n - i) i f ≡ []
   select_nothing h = rw (none_left h) refl

@@ -50,7 +50,7 @@ listed f (suc n) i (x ∷ xs) d e h =
     rw (first, rest) refl
 
 -- what `array::from_fn` makes with a closure that answers h and keeps nothing
-module _ {F A : Type 0} (g : Mut F (ℕ × Unit {0}) A) (f : F) (h : ℕ → A) (said : (i : ℕ) (y : A) (q : F) → Called g f (i, tt) y q → (q ≡ f) × (y ≡ h i)) where
+module _ {F A : Type 0} {g : Mut F (ℕ × Unit {0}) A} {f : F} (h : ℕ → A) (said : (i : ℕ) (y : A) (q : F) → Called g f (i, tt) y q → (q ≡ f) × (y ≡ h i)) where
   each_call : (l : List A) (n i k : ℕ) (d : A) → IsFromFnResultFrom g f l i n → k < n → get_or l (i + k) d ≡ h (i + k)
   each_call l zero i k d w less = absurd (not-suc-le-zero less)
   each_call l (suc n) i zero d w less = ap (λ (j : ℕ). get_or l j d) (add-zero i) ∙ w.2.1 d ∙ (said i w.1 w.0 w.3).1 ∙ ap h (sym (add-zero i))

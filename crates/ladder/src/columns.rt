@@ -1,5 +1,5 @@
 // What a table is made of: a column each, and whether the columns are as they must be: their sizes, and their values within the limits.
-ghost use Rattle.std.specs.Prelude.{◌≡◌, ◌<◌, ◌≤◌, length};
+ghost use Rattle.std.specs.Prelude.{◌≡◌, IsTrue};
 ghost use Rattle.limits.specs.Values.{ok_db, ok_air, ok_bytes};
 ghost use Rattle.limits.specs.Readings.{ok_limit};
 ghost use Rattle.ladder.specs.Lists.{every};
@@ -8,6 +8,7 @@ ghost use Rattle.ladder.specs.Columns.{ok_size};
 use crate::types::Row;
 use limits::reading::{Reading, ok_limit};
 use limits::values::{ok_air, ok_bytes, ok_db};
+use std::array;
 
 // The columns of a table that a caller lends, of which the first `floors` rungs are floor. The echo limits may be fewer: there is none past them.
 #[derive(Clone, Copy)]
@@ -57,7 +58,7 @@ fn all_limits(column: &[Reading]) -> bool
 
 impl Columns<'_> {
     ghost use Rattle.ladder.specs.bridges.Lent.{lent};
-    ghost use Rattle.ladder.specs.Tables.{ok_sizes, same_sizes, ok_values};
+    ghost use Rattle.ladder.specs.Tables.{ok_sizes, same_sizes, ok_values, row_of, rows_of};
 
     // Whether each column has the size that it may have.
     pub(crate) fn ok_sizes(&self) -> bool
@@ -87,5 +88,30 @@ impl Columns<'_> {
             && all_bytes(self.capacities)
             && all_air(self.times)
             && all_limits(self.limits)
+    }
+
+    // The row of rung `r`, or the row past the last rung.
+    #[tactic(auto, using(crate::proofs::Accepted::table_lengths))]
+    fn row(&self, r: usize) -> Row
+        requires { IsTrue (same_sizes (lent self.now)) }
+        ensures { result ≡ row_of (lent self.now) r }
+    {
+        if r >= self.thresholds.len() {
+            return Row::NONE;
+        }
+        Row {
+            threshold: self.thresholds[r],
+            capacity: self.capacities[r],
+            time: self.times[r],
+            limit: self.limits.get(r).copied().flatten(),
+        }
+    }
+
+    // The rows of the rungs, and past them those of no rung.
+    pub(crate) fn rows(&self) -> [Row; 32]
+        requires { IsTrue (same_sizes (lent self.now)) }
+        ensures { result ≡ rows_of (lent self.now) }
+    {
+        array::from_fn(|r| self.row(r))
     }
 }

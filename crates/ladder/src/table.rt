@@ -1,14 +1,12 @@
 // An air's table: made of its columns, or turned away by the lowest of the refusals 1 to 5 that applies.
-ghost use Rattle.std.specs.Prelude.{◌≡◌, ◌<◌, ◌≤◌, length};
+ghost use Rattle.std.specs.Prelude.{◌≡◌};
 ghost use Rattle.ladder.specs.bridges.Lent.{lent};
-ghost use Rattle.ladder.specs.Front.{OneLength};
-ghost use Rattle.ladder.specs.Tables.{limit_at, row_of, rows_of, table_from, tabled, air_for, for_air};
+ghost use Rattle.ladder.specs.Tables.{table_from, tabled, air_for, for_air};
 
 use crate::columns::Columns;
 use crate::front;
 use crate::types::{Air, Front, Row, Table};
 use limits::refusal::Refusal;
-use std::array;
 
 // How far under the reading the prior is read, in dB, and how far a frame moves its family's offset, until `for_air` says otherwise.
 const PRIOR_MARGIN_DB: f64 = 3.0;
@@ -20,30 +18,6 @@ const FAMILY_GAIN_DB: f64 = 0.5;
 pub const WIDE_PRIOR_MARGIN_DB: f64 = 1.0;
 
 pub const WIDE_FAMILY_GAIN_DB: f64 = 1.0;
-
-// The row of rung `r`, or the row past the last rung.
-fn row_at(c: &Columns, r: usize) -> Row
-    requires { (length c.now.times.now ≡ length c.now.thresholds.now) × (length c.now.capacities.now ≡ length c.now.thresholds.now) }
-    ensures { result ≡ row_of (lent c.now) r }
-{
-    if r >= c.thresholds.len() {
-        return Row::NONE;
-    }
-    Row {
-        threshold: c.thresholds[r],
-        capacity: c.capacities[r],
-        time: c.times[r],
-        limit: c.limits.get(r).copied().flatten(),
-    }
-}
-
-// The rows of the rungs, and past them those of no rung.
-fn rows_of(c: &Columns) -> [Row; 32]
-    requires { (length c.now.times.now ≡ length c.now.thresholds.now) × (length c.now.capacities.now ≡ length c.now.thresholds.now) }
-    ensures { result ≡ rows_of (lent c.now) }
-{
-    array::from_fn(|r| row_at(c, r))
-}
 
 // A table of its parts, with the settings that any air starts from.
 fn table_from(rows: [Row; 32], count: u32, floors: u32, offered: Front) -> Table
@@ -82,7 +56,7 @@ pub fn table_for(c: &Columns) -> Result<Table, Refusal>
     if offered.count == 0 {
         return Err(Refusal::EmptyFront);
     }
-    let rows = rows_of(c);
+    let rows = c.rows();
     Ok(table_from(rows, n, c.floors, offered))
 }
 

@@ -9,4 +9,4 @@ pub returns : goal.returns
 unfolding worths_of
 returns c =
     let a = c.args in
-    tabulated _ _ (worth_at a.payload.now a.frame_s.now) (λ i y q k. search rules) c.from_fn.result 32 f0 c.from_fn.ensures.items
+    tabulated (worth_at a.payload.now a.frame_s.now) (λ i y q k. search rules) c.from_fn.result 32 f0 c.from_fn.ensures.items
