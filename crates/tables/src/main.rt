@@ -53,9 +53,8 @@ fn wholes(alloc: Global, column: &[u8]) -> Result<Vec<u32>, AllocError> {
 
 // An entry's first byte says whether there is a limit.
 fn reading_at(entry: &[u8; 9]) -> Reading {
-    let (known, bytes) = entry.split_first_chunk::<1>()?;
-    let limit = float_at(bytes.first_chunk()?);
-    (known[0] != 0).then_some(limit)
+    let limit = float_at(entry.last_chunk()?);
+    (entry[0] != 0).then_some(limit)
 }
 
 fn readings(alloc: Global, column: &[u8]) -> Result<Vec<Reading>, AllocError> {
