@@ -4,6 +4,8 @@ ghost use Rattle.std.specs.Float.Ieee.{le};
 ghost use Rattle.half.specs.Powers.{power_at};
 ghost use Rattle.half.specs.Power.{f1022, inverse_power, whole_steps, part_steps, series, half};
 
+use std::num::truncating_f64_to_u64;
+
 // The table H: entry j is the f64 nearest to 2 ^ (-j / 256), by the rule of specs/Powers.antt. It is a `static`: a read of it is one load, where a read
 // of a `const` array at a computed index first copies the array.
 static H: [f64; 256] = [
@@ -298,10 +300,12 @@ struct Taken {
 // Below, as at a negative t and a NaN, no step is taken.
 fn take_steps(t: f64) -> Taken
     requires { le f1022 t ≡ false }
-    ensures { (result.rest ≡ (part_steps t).0) × (result.part ≡ (part_steps t).1) × (result.whole ≡ (whole_steps t).1) × (result.part < 256) × (result.whole < 1024) }
+    ensures rest { result.rest ≡ (part_steps t).0 }
+    ensures part { (result.part ≡ (part_steps t).1) × (result.part < 256) }
+    ensures whole { (result.whole ≡ (whole_steps t).1) × (result.whole < 1024) }
 {
     if t >= 0.00390625 {
-        let n = std::num::truncating_f64_to_u64(t * 256.0) as u32;
+        let n = truncating_f64_to_u64(t * 256.0) as u32;
         let rest = t - n as f64 * 0.00390625;
         let whole = (n / 256) as usize;
         let part = (n % 256) as usize;
@@ -315,6 +319,7 @@ fn take_steps(t: f64) -> Taken
 }
 
 // 2 ^ -r for r up to 1/256, by its series in u = r ln 2.
+#[tactic(auto, unfolding(crate::specs::Power::series))]
 fn series_at(r: f64) -> f64
     ensures { result ≡ series r }
 {
@@ -327,6 +332,7 @@ fn series_at(r: f64) -> f64
 }
 
 // 2 ^ -t. It is meant for t finite and at least 0, and answers by the same steps for any t.
+#[tactic(auto, unfolding(crate::specs::Power::half))]
 pub fn half(t: f64) -> f64
     ensures { result ≡ half t }
 {
