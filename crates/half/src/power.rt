@@ -282,9 +282,9 @@ fn inverse_power(n: usize) -> f64
     ensures { result ≡ inverse_power n }
 {
     if n < 1023 {
-        f64::from_bits((1023 - n) as u64 * 4503599627370496)
+        f64::from_bits((1023 - n as u64) << 52)
     } else {
-        f64::from_bits(2251799813685248)
+        f64::from_bits(1 << 51)
     }
 }
 
