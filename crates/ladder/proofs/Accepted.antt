@@ -3,7 +3,6 @@ use mathlib.Core.Path.{◌≡◌, refl}
 use mathlib.Core.Bool.{Bool, true, false, ◌&&◌}
 use mathlib.Core.List.{List}
 use Prim.Native.Nat.{ℕ, ◌≤◌}
-use native.Mathlib.Omega.{arith}
 use lib.Dec.{leb, eqb}
 use lib.ListN.{length}
 use lib.Ieee.{Float}
@@ -22,11 +21,11 @@ use Rattle.ladder.proofs.Tests.{both}
 -- a test that did not refuse
 passed : (ok : Bool) (why : Refusal) (later : Verdict) → or_else (unless ok why) later ≡ Ok tt → (ok ≡ true) × (later ≡ Ok tt)
 passed true why later e = (refl, e)
-passed false why later e = let z : ◌≡◌ {A = ℕ} 0 1 = cc in absurd (omega arith)
+passed false why later e = cc
 
 last : (ok : Bool) (why : Refusal) → unless ok why ≡ Ok tt → ok ≡ true
 last true why e = refl
-last false why e = let z : ◌≡◌ {A = ℕ} 0 1 = cc in absurd (omega arith)
+last false why e = cc
 
 sized : (n : ℕ) → ok_size n ≡ true → (1 ≤ n) × (n ≤ 32)
 sized n e = let h = both (leb 1 n) (leb n 32) e in (leb-true 1 n h.0, leb-true n 32 h.1)
