@@ -1,6 +1,5 @@
 pub mod Table
 pub mod Same
-pub mod Nan
 pub mod Order
 pub mod Rounding
 pub mod Monotone

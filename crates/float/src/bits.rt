@@ -4,24 +4,18 @@ ghost use Rattle.std.specs.Float.{binary64};
 ghost use Rattle.std.specs.Float.Ieee.{to_bits};
 ghost use Rattle.float.specs.Numbers.{f64};
 
+use std::num::{f64_from_bits_with_nan, f64_to_bits_with_nan};
+
 // The f64 of a bit pattern; every NaN pattern gives a NaN.
 pub fn float_of(bits: u64) -> f64
     ensures { result ≡ f64 bits }
 {
-    if bits % 0x8000_0000_0000_0000 > 0x7ff0_0000_0000_0000 {
-        0.0 / 0.0
-    } else {
-        f64::from_bits(bits)
-    }
+    f64_from_bits_with_nan(bits)
 }
 
 // The bit pattern of an f64; of a NaN the quiet one with its sign clear.
 pub fn bits_of(x: f64) -> u64
     ensures { result ≡ to_bits binary64 x }
 {
-    if x == x {
-        f64::to_bits(x)
-    } else {
-        0x7ff8_0000_0000_0000
-    }
+    f64_to_bits_with_nan(x)
 }

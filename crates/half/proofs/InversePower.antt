@@ -1,12 +1,12 @@
--- 2 ^ -n is the value whose exponent's field is 1023 - n and whose digits are 0, tested at each n below 1023. Assumes nothing.
-use Rattle.std.proofs.Common.{◌≡◌, ℕ, ◌-◌, ◌*◌, ◌<◌, Bool, not, T, refl}
+-- 2 ^ -n is the value whose exponent's field is 1023 - n (the bits of a shift by 52) and whose digits are 0, tested at each n below 1023. Assumes nothing.
+use Rattle.std.proofs.Common.{◌≡◌, ℕ, ◌-◌, ◌*◌, ◌%◌, ◌<◌, Bool, not, T, refl}
 use lib.Ieee.{binary64, round, of_bits, nan_bits}
 use Rattle.half.specs.Power.{inverse_power}
 use Rattle.float.proofs.Table.{both, both_left, both_right}
 use Rattle.float.proofs.Same.{same, same→eq, all, all_at}
 
 abbrev pattern : ℕ → ℕ
-pattern n = (1023 - n) * 4503599627370496
+pattern n = (1023 - n) * 4503599627370496 % 18446744073709551616
 
 abbrev number : ℕ → Bool
 number n = not (nan_bits binary64 (pattern n))

@@ -1,5 +1,4 @@
 pub mod Powers
-pub mod Rows
 pub mod InversePower
 pub mod Range
 pub mod Fraction

@@ -1,11 +1,10 @@
 -- The exponential, and `decode_probability`. Definitions only.
-use Rattle.std.specs.Prelude.{Bool, cond, ◌&&◌, T, Float}
+use Rattle.std.specs.Prelude.{Bool, cond, ◌&&◌, T, Float, Result, Ok, Err}
 use Rattle.std.specs.Float.Ieee.{neg, le, lt}
 use Rattle.float.specs.Numbers.{f64, ◌⊕◌, ◌⊖◌, ◌⊗◌, ◌⊘◌, f0, f1}
 use Rattle.limits.specs.Values.{ok_db, ok_slope}
+use Rattle.limits.specs.declared.refusal.Refusal.{Refusal}
 use Rattle.limits.specs.declared.refusal.Refusal.TheVariants.{OutsideLimits}
-pub use Rattle.half.specs.declared.logistic.Probability.{Probability}
-pub use Rattle.half.specs.declared.logistic.Probability.TheVariants.{Refused, Of}
 use Rattle.half.specs.Power.{half}
 
 -- 1.4426950408889634
@@ -36,8 +35,8 @@ abbrev pub ok_arguments : Float → Float → Float → Bool
 ok_arguments snr threshold slope = ok_db snr && ok_db threshold && ok_slope slope
 
 -- 8: "a .. `decode_probability` argument outside its limits"
-unfoldable pub probability : Float → Float → Float → Probability
-probability snr threshold slope = cond (ok_arguments snr threshold slope) (Of (decode_probability snr threshold slope)) (Refused OutsideLimits)
+unfoldable pub probability : Float → Float → Float → Result Float Refusal
+probability snr threshold slope = cond (ok_arguments snr threshold slope) (Ok (decode_probability snr threshold slope)) (Err OutsideLimits)
 
 -- "It lies from 0 to 1." So it is no NaN
 abbrev pub FromZeroToOne : Float → Type 0

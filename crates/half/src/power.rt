@@ -1,14 +1,14 @@
 // The half-power: 2 ^ -t by a table of 256 entries, a short series and a power of two.
-ghost use Rattle.std.specs.Prelude.{◌≡◌, ◌<◌, false, slice_index_or};
+ghost use Rattle.std.specs.Prelude.{◌≡◌, ◌<◌, false};
 ghost use Rattle.std.specs.Float.Ieee.{le};
-ghost use Rattle.std.specs.Float.{nan};
 ghost use Rattle.half.specs.Powers.{power_at};
 ghost use Rattle.half.specs.Power.{f1022, inverse_power, whole_steps, part_steps, series, half};
 
-// The table H: entry j is the f64 nearest to 2 ^ (-j / 256), by the rule of specs/Powers.antt. A read of a constant array at a
-// computed index first writes the whole array to the stack; a read at a written-out index is the constant itself. So matches pick
-// the row and the entry, and compile to reads of a table in read-only memory. Rows of 16 keep each match short.
-const ROW_0: [f64; 16] = [
+use std::num::truncating_f64_to_u64;
+
+// The table H: entry j is the f64 nearest to 2 ^ (-j / 256), by the rule of specs/Powers.antt. It is a `static`: a read of it is one load, where a read
+// of a `const` array at a computed index first copies the array.
+static H: [f64; 256] = [
     1.0,
     0.9972960560854701,
     0.9945994234836332,
@@ -25,9 +25,6 @@ const ROW_0: [f64; 16] = [
     0.9654133954938136,
     0.9628029718180625,
     0.9601996065815237,
-];
-
-const ROW_1: [f64; 16] = [
     0.9576032806985737,
     0.9550139751351949,
     0.9524316709088371,
@@ -44,9 +41,6 @@ const ROW_1: [f64; 16] = [
     0.9244830347552254,
     0.921983284479313,
     0.9194902933879469,
-];
-
-const ROW_2: [f64; 16] = [
     0.9170040432046712,
     0.9145245157024486,
     0.9120516927035267,
@@ -63,9 +57,6 @@ const ROW_2: [f64; 16] = [
     0.8852879870317774,
     0.8828942179666364,
     0.880506921518792,
-];
-
-const ROW_3: [f64; 16] = [
     0.8781260801866497,
     0.8757516765159391,
     0.8733836930995845,
@@ -82,9 +73,6 @@ const ROW_3: [f64; 16] = [
     0.8477546807446663,
     0.8454623996346526,
     0.8431763167241967,
-];
-
-const ROW_4: [f64; 16] = [
     0.8408964152537145,
     0.8386226785089392,
     0.8363550898207983,
@@ -101,9 +89,6 @@ const ROW_4: [f64; 16] = [
     0.8118126635086644,
     0.8096175675974319,
     0.8074284071024304,
-];
-
-const ROW_5: [f64; 16] = [
     0.8052451659746271,
     0.8030678282083855,
     0.8008963778413467,
@@ -120,9 +105,6 @@ const ROW_5: [f64; 16] = [
     0.7773944698885443,
     0.7752924388425,
     0.7731960915705107,
-];
-
-const ROW_6: [f64; 16] = [
     0.7711054127039704,
     0.7690203869158284,
     0.766940998920478,
@@ -139,9 +121,6 @@ const ROW_6: [f64; 16] = [
     0.7444354947621985,
     0.7424225829363762,
     0.7404151139112359,
-];
-
-const ROW_7: [f64; 16] = [
     0.7384130729697497,
     0.7364164454346838,
     0.7344252166684909,
@@ -158,9 +137,6 @@ const ROW_7: [f64; 16] = [
     0.7128738720527471,
     0.7109463010845828,
     0.7090239421602076,
-];
-
-const ROW_8: [f64; 16] = [
     0.7071067811865476,
     0.7051948041086353,
     0.7032879969095077,
@@ -177,9 +153,6 @@ const ROW_8: [f64; 16] = [
     0.682650358602006,
     0.6808045103191124,
     0.6789636531064506,
-];
-
-const ROW_9: [f64; 16] = [
     0.6771277734684463,
     0.6752968579460172,
     0.6734708931164729,
@@ -196,9 +169,6 @@ const ROW_9: [f64; 16] = [
     0.6537082229673387,
     0.6519406325959679,
     0.6501778216898253,
-];
-
-const ROW_10: [f64; 16] = [
     0.6484197773255048,
     0.6466664866145447,
     0.6449179367033329,
@@ -215,9 +185,6 @@ const ROW_10: [f64; 16] = [
     0.6259931389331581,
     0.6243004885946024,
     0.622612415087629,
-];
-
-const ROW_11: [f64; 16] = [
     0.620928906036742,
     0.6192499490999083,
     0.6175755319684667,
@@ -234,9 +201,6 @@ const ROW_11: [f64; 16] = [
     0.5994530835371903,
     0.5978321960199137,
     0.5962156912915756,
-];
-
-const ROW_12: [f64; 16] = [
     0.5946035575013605,
     0.5929957828304969,
     0.5913923554921705,
@@ -253,9 +217,6 @@ const ROW_12: [f64; 16] = [
     0.5740382394200895,
     0.5724860722159021,
     0.5709381019847808,
-];
-
-const ROW_13: [f64; 16] = [
     0.5693943173783458,
     0.5678547070789027,
     0.5663192597993596,
@@ -272,9 +233,6 @@ const ROW_13: [f64; 16] = [
     0.549700901315111,
     0.5482145409081884,
     0.5467321995364429,
-];
-
-const ROW_14: [f64; 16] = [
     0.5452538663326288,
     0.5437795304588848,
     0.5423091811066546,
@@ -291,9 +249,6 @@ const ROW_14: [f64; 16] = [
     0.5263953865023132,
     0.5249720429003436,
     0.5235525479396449,
-];
-
-const ROW_15: [f64; 16] = [
     0.5221368912137069,
     0.520725062344158,
     0.5193170509806894,
@@ -312,55 +267,13 @@ const ROW_15: [f64; 16] = [
     0.5013556375251013,
 ];
 
-// Entry i of a row, each read at a written-out index.
-fn entry(row: [f64; 16], i: usize) -> f64
-    requires { i < 16 }
-    ensures { result ≡ slice_index_or row i nan }
-{
-    match i {
-        0 => row[0],
-        1 => row[1],
-        2 => row[2],
-        3 => row[3],
-        4 => row[4],
-        5 => row[5],
-        6 => row[6],
-        7 => row[7],
-        8 => row[8],
-        9 => row[9],
-        10 => row[10],
-        11 => row[11],
-        12 => row[12],
-        13 => row[13],
-        14 => row[14],
-        _ => row[15],
-    }
-}
-
-// H[j]: entry j % 16 of row j / 16.
+// H[j].
+#[tactic(auto, unfolding(crate::specs::Powers::powers))]
 fn half_power(j: usize) -> f64
     requires { j < 256 }
     ensures { result ≡ power_at j }
 {
-    let i = j % 16;
-    match j / 16 {
-        0 => entry(ROW_0, i),
-        1 => entry(ROW_1, i),
-        2 => entry(ROW_2, i),
-        3 => entry(ROW_3, i),
-        4 => entry(ROW_4, i),
-        5 => entry(ROW_5, i),
-        6 => entry(ROW_6, i),
-        7 => entry(ROW_7, i),
-        8 => entry(ROW_8, i),
-        9 => entry(ROW_9, i),
-        10 => entry(ROW_10, i),
-        11 => entry(ROW_11, i),
-        12 => entry(ROW_12, i),
-        13 => entry(ROW_13, i),
-        14 => entry(ROW_14, i),
-        _ => entry(ROW_15, i),
-    }
+    H[j]
 }
 
 // 2 ^ -n, exactly: the exponent's field is 1023 - n, and for n = 1023 the value is subnormal.
@@ -369,9 +282,9 @@ fn inverse_power(n: usize) -> f64
     ensures { result ≡ inverse_power n }
 {
     if n < 1023 {
-        f64::from_bits((1023 - n) as u64 * 4503599627370496)
+        f64::from_bits((1023 - n as u64) << 52)
     } else {
-        f64::from_bits(2251799813685248)
+        f64::from_bits(1 << 51)
     }
 }
 
@@ -387,10 +300,12 @@ struct Taken {
 // Below, as at a negative t and a NaN, no step is taken.
 fn take_steps(t: f64) -> Taken
     requires { le f1022 t ≡ false }
-    ensures { (result.rest ≡ (part_steps t).0) × (result.part ≡ (part_steps t).1) × (result.whole ≡ (whole_steps t).1) × (result.part < 256) × (result.whole < 1024) }
+    ensures rest { result.rest ≡ (part_steps t).0 }
+    ensures part { (result.part ≡ (part_steps t).1) × (result.part < 256) }
+    ensures whole { (result.whole ≡ (whole_steps t).1) × (result.whole < 1024) }
 {
     if t >= 0.00390625 {
-        let n = std::num::truncating_f64_to_u64(t * 256.0) as u32;
+        let n = truncating_f64_to_u64(t * 256.0) as u32;
         let rest = t - n as f64 * 0.00390625;
         let whole = (n / 256) as usize;
         let part = (n % 256) as usize;
@@ -404,6 +319,7 @@ fn take_steps(t: f64) -> Taken
 }
 
 // 2 ^ -r for r up to 1/256, by its series in u = r ln 2.
+#[tactic(auto, unfolding(crate::specs::Power::series))]
 fn series_at(r: f64) -> f64
     ensures { result ≡ series r }
 {
@@ -416,6 +332,7 @@ fn series_at(r: f64) -> f64
 }
 
 // 2 ^ -t. It is meant for t finite and at least 0, and answers by the same steps for any t.
+#[tactic(auto, unfolding(crate::specs::Power::half))]
 pub fn half(t: f64) -> f64
     ensures { result ≡ half t }
 {

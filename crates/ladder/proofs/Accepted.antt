@@ -3,15 +3,13 @@ use mathlib.Core.Path.{◌≡◌, refl}
 use mathlib.Core.Bool.{Bool, true, false, ◌&&◌}
 use mathlib.Core.List.{List}
 use Prim.Native.Nat.{ℕ, ◌≤◌}
-use native.Mathlib.Omega.{arith}
 use lib.Dec.{leb, eqb}
-use lib.ListN.{length, take}
+use lib.ListN.{length}
 use lib.Ieee.{Float}
 use borrow.Author.Tests.{leb-true, eqb-true}
 use Rattle.limits.specs.Values.{ok_db, ok_air, ok_bytes}
-use Rattle.limits.specs.Refusals.{unless, or_else}
-use Rattle.limits.specs.declared.refusal.Verdict.{Verdict}
-use Rattle.limits.specs.declared.refusal.Verdict.TheVariants.{Accepted}
+use Rattle.std.proofs.Common.{Ok}
+use Rattle.limits.specs.Refusals.{Verdict, unless, or_else}
 use Rattle.limits.specs.declared.refusal.Refusal.{Refusal}
 use Rattle.ladder.specs.Lists.{every}
 use Rattle.limits.specs.Readings.{ok_limit}
@@ -21,19 +19,19 @@ use Rattle.ladder.specs.Tables.{Columns, ok_sizes, same_sizes, ok_values, ok_flo
 use Rattle.ladder.proofs.Tests.{both}
 
 -- a test that did not refuse
-passed : (ok : Bool) (why : Refusal) (later : Verdict) → or_else (unless ok why) later ≡ Accepted → (ok ≡ true) × (later ≡ Accepted)
+passed : (ok : Bool) (why : Refusal) (later : Verdict) → or_else (unless ok why) later ≡ Ok tt → (ok ≡ true) × (later ≡ Ok tt)
 passed true why later e = (refl, e)
-passed false why later e = let z : ◌≡◌ {A = ℕ} 0 1 = cc in absurd (omega arith)
+passed false why later e = cc
 
-last : (ok : Bool) (why : Refusal) → unless ok why ≡ Accepted → ok ≡ true
+last : (ok : Bool) (why : Refusal) → unless ok why ≡ Ok tt → ok ≡ true
 last true why e = refl
-last false why e = let z : ◌≡◌ {A = ℕ} 0 1 = cc in absurd (omega arith)
+last false why e = cc
 
 sized : (n : ℕ) → ok_size n ≡ true → (1 ≤ n) × (n ≤ 32)
 sized n e = let h = both (leb 1 n) (leb n 32) e in (leb-true 1 n h.0, leb-true n 32 h.1)
 
 -- ---- the three columns of a front
-module _ (thresholds : List Float) (payloads : List ℕ) (times : List Float) (e : front_verdict thresholds payloads times ≡ Accepted) where
+module _ (thresholds : List Float) (payloads : List ℕ) (times : List Float) (e : front_verdict thresholds payloads times ≡ Ok tt) where
   pub front_columns : OneLength thresholds payloads times × (length thresholds ≤ 32)
   unfolding front_verdict
   front_columns =
@@ -49,15 +47,15 @@ module _ (thresholds : List Float) (payloads : List ℕ) (times : List Float) (e
 -- ---- the columns of a table
 module _ (c : Columns) where
   -- what the sizes say: a table has 1 to 32 rungs, and at most 32 echo limits
-  pub table_sizes : ok_sizes c ≡ true → (1 ≤ length c.thresholds) × (length c.thresholds ≤ 32) × (c.limited ≤ 32)
+  pub table_sizes : ok_sizes c ≡ true → (1 ≤ length c.thresholds) × (length c.thresholds ≤ 32) × (length c.limits ≤ 32)
   table_sizes e =
       let t = ok_size (length c.thresholds) in
       let p = ok_size (length c.payloads) in
       let q = ok_size (length c.capacities) in
       let x = ok_size (length c.times) in
-      let limits = both (t && p && q && x) (leb c.limited 32) e in
+      let limits = both (t && p && q && x) (leb (length c.limits) 32) e in
       let rungs = sized (length c.thresholds) (both t p (both (t && p) q (both (t && p && q) x limits.0).0).0).0 in
-      (rungs.0, rungs.1, leb-true c.limited 32 limits.1)
+      (rungs.0, rungs.1, leb-true (length c.limits) 32 limits.1)
 
   -- what one length says
   pub table_lengths : same_sizes c ≡ true → OneLength c.thresholds c.payloads c.times × (length c.capacities ≡ length c.thresholds)
@@ -78,7 +76,7 @@ module _ (c : Columns) where
     pub floors : c.floors ≤ length c.thresholds
     pub front : 1 ≤ length (front_of_columns c)
 
-  pub accepted_columns : table_verdict c ≡ Accepted → Fit
+  pub accepted_columns : table_verdict c ≡ Ok tt → Fit
   unfolding table_verdict
   accepted_columns e =
       let one = passed (ok_sizes c) _ _ e in
@@ -99,7 +97,7 @@ module _ (c : Columns) where
     pub payloads : every ok_bytes c.payloads ≡ true
     pub capacities : every ok_bytes c.capacities ≡ true
     pub times : every ok_air c.times ≡ true
-    pub limits : every ok_limit (take c.limited c.limits) ≡ true
+    pub limits : every ok_limit c.limits ≡ true
 
   pub table_values : ok_values c ≡ true → Within
   table_values e =
@@ -107,7 +105,7 @@ module _ (c : Columns) where
       let p = every ok_bytes c.payloads in
       let q = every ok_bytes c.capacities in
       let x = every ok_air c.times in
-      let five = both (t && p && q && x) (every ok_limit (take c.limited c.limits)) e in
+      let five = both (t && p && q && x) (every ok_limit c.limits) e in
       let four = both (t && p && q) x five.0 in
       let three = both (t && p) q four.0 in
       let two = both t p three.0 in

@@ -2,9 +2,10 @@
 use mathlib.Core.Path.{◌≡◌, refl}
 use mathlib.Core.Bool.{Bool, true, false}
 use mathlib.Core.List.{[], ◌∷◌}
-use Prim.Native.Nat.{ℕ, suc, ◌+◌, ◌-◌, ◌<◌, ◌≤◌}
+use Prim.Native.Nat.{ℕ, zero, suc, ◌+◌, ◌-◌, ◌<◌, ◌≤◌}
 use native.Mathlib.Numerals.{add-one}
 use native.Mathlib.Omega.{arith}
+use Rattle.std.specs.List.{list_any, range_with_len}
 use Rattle.ladder.specs.Lists.{select, some_from}
 
 module _ (f : ℕ → Bool) (n i : ℕ) where
@@ -16,20 +17,21 @@ module _ (f : ℕ → Bool) (n i : ℕ) where
 
   -- `r` is what the test said of i
   module _ (r : Bool) (h : i < n) (e : r ≡ f i) where
-    pub some_here : r ≡ true → true ≡ some_from (n - i) i f
-    some_here q = rw (left h, ← e, q) refl
-
-    pub some_later : r ≡ false → some_from (n - (i + 1)) (i + 1) f ≡ some_from (n - i) i f
-    some_later q = rw (left h, ← e, q, add-one i) refl
-
     pub select_here : r ≡ true → select (n - i) i f ≡ i ∷ select (n - (i + 1)) (i + 1) f
     select_here q = rw (left h, ← e, q, add-one i) refl
 
     pub select_later : r ≡ false → select (n - i) i f ≡ select (n - (i + 1)) (i + 1) f
     select_later q = rw (left h, ← e, q, add-one i) refl
 
-  pub some_nowhere : n ≤ i → false ≡ some_from (n - i) i f
-  some_nowhere h = rw (none_left h) refl
-
   pub select_nothing : n ≤ i → select (n - i) i f ≡ []
   select_nothing h = rw (none_left h) refl
+
+-- over a range of numbers `any` is `some_from`
+pub list_any-range : (f : ℕ → Bool) (n i : ℕ) → list_any f (range_with_len i n) ≡ some_from n i f
+list_any-range f zero i = refl
+list_any-range f (suc n) i = rw (add-one i, list_any-range f n (suc i)) refl
+
+-- tests that agree on a range
+pub some_agree : (f g : ℕ → Bool) (n i : ℕ) → ((k : ℕ) → k < i + n → f k ≡ g k) → some_from n i f ≡ some_from n i g
+some_agree f g zero i h = refl
+some_agree f g (suc n) i h = rw (h i (omega arith), some_agree f g n (suc i) (λ k less. h k (omega arith))) refl

@@ -10,7 +10,7 @@ use lib.Ieee.{Float}
 use borrow.Author.Tests.{lt-ltb}
 use Rattle.float.specs.Numbers.{f1}
 use Rattle.limits.specs.Values.{ok_air}
-use Rattle.limits.specs.declared.refusal.Verdict.TheVariants.{Accepted}
+use Rattle.std.proofs.Common.{Ok}
 use Rattle.ladder.specs.Lists.{every}
 use Rattle.ladder.specs.Types.{Row, Table, rung, row, no_row, rungs_of, places_of, rung_at}
 use Rattle.ladder.specs.Front.{front_rungs}
@@ -31,7 +31,7 @@ pub record TableSound (t : Table) : Type 0 where
 row_time : (c : Columns) (r : ℕ) → r < length c.thresholds → (row_of c r).time ≡ get_or c.times r f1
 row_time c r h = rw (lt-ltb r (length c.thresholds) h) refl
 
-pub made_sound : (c : Columns) (wide : Bool) → table_verdict c ≡ Accepted → TableSound (for_air (table_of c) wide)
+pub made_sound : (c : Columns) (wide : Bool) → table_verdict c ≡ Ok tt → TableSound (for_air (table_of c) wide)
 unfolding table_of rows_of
 made_sound c wide e =
     let a = accepted_columns c e in

@@ -1,8 +1,6 @@
 -- What a call's answer, tested by `if !answer`, says of the definition that the answer equals. Assumes nothing.
 use mathlib.Core.Path.{◌≡◌, refl, sym, ◌∙◌}
 use mathlib.Core.Bool.{Bool, true, false, not, ◌&&◌}
-use Prim.Native.Nat.{ℕ}
-use native.Mathlib.Omega.{arith}
 use borrow.Author.Tests.{not-true, not-false}
 
 module _ {r b : Bool} (e : r ≡ b) where
@@ -15,4 +13,4 @@ module _ {r b : Bool} (e : r ≡ b) where
 -- both parts of a test that passed
 pub both : (a b : Bool) → (a && b) ≡ true → (a ≡ true) × (b ≡ true)
 both true b e = (refl, e)
-both false b e = let z : ◌≡◌ {A = ℕ} 0 1 = cc in absurd (omega arith)
+both false b e = cc

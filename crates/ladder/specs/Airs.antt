@@ -1,9 +1,8 @@
 -- The two airs' tables, as the source measures them, and the columns of a fresh controller. Definitions only.
-use Rattle.std.specs.Prelude.{List, [], ◌∷◌, ◌++◌, map, ℕ, replicate, Float}
+use Rattle.std.specs.Prelude.{List, [], ◌∷◌, ◌++◌, map, ℕ, replicate, Some, None, Float}
 use Rattle.std.specs.Float.Ieee.{neg}
 use Rattle.float.specs.Numbers.{f64}
-use Rattle.limits.specs.declared.reading.Reading.{Reading}
-use Rattle.limits.specs.declared.reading.Reading.TheVariants.{Missing, Value}
+use Rattle.limits.specs.Readings.{Reading}
 use Rattle.ladder.specs.Front.{data_of}
 use Rattle.ladder.specs.Tables.{Columns}
 
@@ -31,7 +30,7 @@ wide_times = replicate 6 floor_time ++ replicate 14 ordinary_time
 
 -- rung 5: 0.0073
 abbrev pub wide_limits : List Reading
-wide_limits = replicate 5 Missing ++ Value (f64 0x3f7d_e69a_d42c_3c9f) ∷ replicate 26 Missing
+wide_limits = replicate 5 None ++ Some (f64 0x3f7d_e69a_d42c_3c9f) ∷ replicate 14 None
 
 -- ---- narrow, 500 Hz
 -- -19.0, -17.3, -14.3, -13.0, -11.1, -5.2, -3.6, -2.1, 0.5, -0.1, 2.0, 3.5, 6.9, 8.8, 10.4 dB
@@ -49,7 +48,7 @@ narrow_times = replicate 5 floor_time ++ replicate 10 ordinary_time
 
 -- rungs 3 and 4: 0.0038
 abbrev pub narrow_limits : List Reading
-narrow_limits = replicate 3 Missing ++ Value (f64 0x3f6f_212d_7731_8fc5) ∷ Value (f64 0x3f6f_212d_7731_8fc5) ∷ replicate 27 Missing
+narrow_limits = replicate 3 None ++ Some (f64 0x3f6f_212d_7731_8fc5) ∷ Some (f64 0x3f6f_212d_7731_8fc5) ∷ replicate 10 None
 
 -- "the air's tables, capacity payload - 3, 6 floor rungs wide or 5 narrow"
 abbrev pub wide_air : Columns
@@ -59,7 +58,6 @@ wide_air = record {
   capacities = wide_capacities;
   times = wide_times;
   limits = wide_limits;
-  limited = 20;
   floors = 6;
 }
 
@@ -70,6 +68,5 @@ narrow_air = record {
   capacities = narrow_capacities;
   times = narrow_times;
   limits = narrow_limits;
-  limited = 15;
   floors = 5;
 }

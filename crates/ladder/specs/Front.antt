@@ -1,17 +1,14 @@
 -- "Front and places": the rungs worth offering, from the columns of thresholds, payloads and frame times. Definitions only.
-use Rattle.std.specs.Prelude.{◌≡◌, Bool, not, ◌&&◌, List, [], map, ℕ, ◌-◌, eqb, length, get_or, replicate, Float}
+use Rattle.std.specs.Prelude.{◌≡◌, Bool, not, ◌&&◌, List, map, ℕ, ◌-◌, eqb, length, get_or, replicate, Result, Ok, Err, Float}
 use Rattle.std.specs.Float.Ieee.{le}
 use Rattle.float.specs.Numbers.{◌⊘◌, of_nat, f0, f1}
 use Rattle.limits.specs.Values.{ok_db, ok_air, ok_bytes}
-use Rattle.limits.specs.Refusals.{unless, or_else}
-use Rattle.limits.specs.declared.refusal.Verdict.{Verdict}
-use Rattle.limits.specs.declared.refusal.Verdict.TheVariants.{Accepted, Refused}
+use Rattle.limits.specs.Refusals.{Verdict, unless, or_else}
 use Rattle.limits.specs.declared.refusal.Refusal.{Refusal}
 use Rattle.limits.specs.declared.refusal.Refusal.TheVariants.{ColumnSize, ColumnsDiffer, TableValue}
 use Rattle.ladder.specs.Lists.{every, tabulate, select, some_from, filled}
 use Rattle.ladder.specs.Types.{Rung, Front, rung}
 use Rattle.ladder.specs.Columns.{ok_size}
-pub use Rattle.ladder.specs.declared.front.Usable.{Usable}
 
 -- columns of one length: a row of numbers for each rung
 pub record OneLength (thresholds : List Float) (payloads : List ℕ) (times : List Float) : Type 0 where
@@ -62,19 +59,15 @@ front_verdict thresholds payloads times =
     (or_else (unless (eqb (length payloads) (length thresholds) && eqb (length times) (length thresholds)) ColumnsDiffer)
     (unless (every ok_db thresholds && every ok_bytes payloads && every ok_air times) TableValue))
 
--- no rung, and why
-abbrev pub refused_front : Refusal → Usable
-refused_front why = record { verdict = Refused why; front = front_as [] }
-
 -- a front where it is accepted
-abbrev pub usable_if : Verdict → List ℕ → Usable
-usable_if Accepted f = record { verdict = Accepted; front = front_as f }
-usable_if (Refused why) f = refused_front why
+abbrev pub usable_if : Verdict → List ℕ → Result Front Refusal
+usable_if (Ok _) f = Ok (front_as f)
+usable_if (Err why) f = Err why
 
 -- what `usable_modes_by_rate` answers. An empty front is no refusal here: only a table is refused for it
-unfoldable pub usable_of : List Float → List ℕ → List Float → Usable
+unfoldable pub usable_of : List Float → List ℕ → List Float → Result Front Refusal
 usable_of thresholds payloads times = usable_if (front_verdict thresholds payloads times) (front_of thresholds payloads times)
 
 -- what `usable_modes_of` answers: every frame time is 1.0
-unfoldable pub usable_by_payload : List Float → List ℕ → Usable
+unfoldable pub usable_by_payload : List Float → List ℕ → Result Front Refusal
 usable_by_payload thresholds payloads = usable_of thresholds payloads (replicate (length thresholds) f1)

@@ -4,3 +4,4 @@ pub mod Columns
 pub mod Front
 pub mod Tables
 pub mod Airs
+pub mod bridges

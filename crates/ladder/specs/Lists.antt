@@ -1,10 +1,10 @@
 -- Functions on lists and on ranges of numbers that the definitions above use. Definitions only.
-use Rattle.std.specs.Prelude.{Bool, true, false, ◌&&◌, ◌||◌, cond, List, [], ◌∷◌, ◌++◌, ℕ, zero, suc, ◌-◌, length, replicate}
+use Rattle.std.specs.Prelude.{Bool, false, ◌||◌, cond, List, [], ◌∷◌, ◌++◌, ℕ, zero, suc, ◌-◌, length, replicate}
+use Rattle.std.specs.List.{list_all}
 
 -- whether each entry passes
 abbrev pub every : {A : Type 0} → (A → Bool) → List A → Bool
-every f [] = true
-every f (x ∷ xs) = f x && every f xs
+every f xs = list_all f xs
 
 -- f at i, i + 1, .., n of them
 abbrev pub tabulate : {A : Type 0} → ℕ → ℕ → (ℕ → A) → List A

@@ -1,7 +1,6 @@
 -- How a table is read. A rung is the source's mode, a place its index. Definitions only.
-use Rattle.std.specs.Prelude.{Bool, ℕ, min, ltb, get_or}
+use Rattle.std.specs.Prelude.{Bool, ℕ, None, min, ltb, get_or}
 use Rattle.float.specs.Numbers.{f0, f1}
-use Rattle.limits.specs.declared.reading.Reading.TheVariants.{Missing}
 pub use Rattle.ladder.specs.declared.types.Rung.{Rung}
 pub use Rattle.ladder.specs.declared.types.Place.{Place}
 pub use Rattle.ladder.specs.declared.types.Row.{Row}
@@ -17,7 +16,7 @@ place n = record { 0 = n }
 
 -- a rung outside the table, as the source's `.get(mode)` has it: capacity 0, frame time 1.0, no limit
 abbrev pub no_row : Row
-no_row = record { threshold = f0; capacity = 0; time = f1; limit = Missing }
+no_row = record { threshold = f0; capacity = 0; time = f1; limit = None }
 
 abbrev pub row : Table → ℕ → Row
 row t r = get_or t.rows r no_row

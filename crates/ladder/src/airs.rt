@@ -1,10 +1,13 @@
 // The two airs' columns, number for number the source's, which has them from measurements of the PHY, and the tables that they make.
 ghost use Rattle.std.specs.Prelude.{◌≡◌};
 ghost use Rattle.ladder.specs.Tables.{tabled};
-ghost use Rattle.ladder.specs.Airs.{wide_limits, wide_air, narrow_limits, narrow_air};
+ghost use Rattle.ladder.specs.Airs.{wide_air, narrow_air};
 
-use crate::table::{Tabled, table_for};
+use crate::columns::Columns;
+use crate::table::table_for;
+use crate::types::Table;
 use limits::reading::Reading;
+use limits::refusal::Refusal;
 
 // ---- wide, 2 300 Hz: rungs 0 to 5 are the tone floor, 6 to 19 the OFDM modes 0 to 13
 // The SNR in 3 kHz at which a rung loses one frame in ten with noise alone (AWGN). The floor's were measured by the source's tools/bench_tone.py
@@ -17,26 +20,26 @@ pub const AWGN_THRESHOLD_DB: [f64; 20] = [
 // The echo share above which a rung is kept off the air, by tools/bench_echo.py --limits (bench/baselines/echo.csv): a 7 ms echo breaks the short symbols
 // of rung 5. A rung without a limit is carried by some measured path that echoes nearly as much as any that refuses it.
 pub const ECHO_LIMIT: [Reading; 20] = [
-    Reading::Missing,
-    Reading::Missing,
-    Reading::Missing,
-    Reading::Missing,
-    Reading::Missing,
-    Reading::Value(0.0073),
-    Reading::Missing,
-    Reading::Missing,
-    Reading::Missing,
-    Reading::Missing,
-    Reading::Missing,
-    Reading::Missing,
-    Reading::Missing,
-    Reading::Missing,
-    Reading::Missing,
-    Reading::Missing,
-    Reading::Missing,
-    Reading::Missing,
-    Reading::Missing,
-    Reading::Missing,
+    None,
+    None,
+    None,
+    None,
+    None,
+    Some(0.0073),
+    None,
+    None,
+    None,
+    None,
+    None,
+    None,
+    None,
+    None,
+    None,
+    None,
+    None,
+    None,
+    None,
+    None,
 ];
 
 // Payload bytes a frame.
@@ -64,21 +67,21 @@ pub const NARROW_AWGN_THRESHOLD_DB: [f64; 15] = [
 
 // As on the wide air: two rays 5 ms apart break the 10 ms symbols of rungs 3 and 4, at their higher code rates; 4 ms apart they do not.
 pub const NARROW_ECHO_LIMIT: [Reading; 15] = [
-    Reading::Missing,
-    Reading::Missing,
-    Reading::Missing,
-    Reading::Value(0.0038),
-    Reading::Value(0.0038),
-    Reading::Missing,
-    Reading::Missing,
-    Reading::Missing,
-    Reading::Missing,
-    Reading::Missing,
-    Reading::Missing,
-    Reading::Missing,
-    Reading::Missing,
-    Reading::Missing,
-    Reading::Missing,
+    None,
+    None,
+    None,
+    Some(0.0038),
+    Some(0.0038),
+    None,
+    None,
+    None,
+    None,
+    None,
+    None,
+    None,
+    None,
+    None,
+    None,
 ];
 
 // Payload bytes a frame.
@@ -107,66 +110,36 @@ pub const CONTROL_THRESHOLD_DB: [f64; 2] = [-5.1, TONE_CONTROL_THRESHOLD_DB];
 pub const NARROW_CONTROL_THRESHOLD_DB: [f64; 2] = [-4.5, TONE_CONTROL_THRESHOLD_DB];
 
 // ---- the tables
-// The wide air's echo limits, with none past its last rung.
-pub fn wide_limits() -> [Reading; 32]
-    ensures { result ≡ wide_limits }
-{
-    let column = ECHO_LIMIT;
-    let none = Reading::Missing;
-    let mut limits = [none; 32];
-    let mut i = 0;
-    while i < 20 {
-        let limit = column[i];
-        limits[i] = limit;
-        i += 1;
-    }
-    limits
-}
+// The wide air's columns: 6 of its rungs are floor.
+pub const WIDE: Columns = Columns {
+    thresholds: &AWGN_THRESHOLD_DB,
+    payloads: &PAYLOAD_BYTES,
+    capacities: &CAPACITY_BYTES,
+    times: &FRAME_S,
+    limits: &ECHO_LIMIT,
+    floors: 6,
+};
 
-// The narrow air's.
-pub fn narrow_limits() -> [Reading; 32]
-    ensures { result ≡ narrow_limits }
-{
-    let column = NARROW_ECHO_LIMIT;
-    let none = Reading::Missing;
-    let mut limits = [none; 32];
-    let mut i = 0;
-    while i < 15 {
-        let limit = column[i];
-        limits[i] = limit;
-        i += 1;
-    }
-    limits
-}
+// The narrow air's: 5.
+pub const NARROW: Columns = Columns {
+    thresholds: &NARROW_AWGN_THRESHOLD_DB,
+    payloads: &NARROW_PAYLOAD_BYTES,
+    capacities: &NARROW_CAPACITY_BYTES,
+    times: &NARROW_FRAME_S,
+    limits: &NARROW_ECHO_LIMIT,
+    floors: 5,
+};
 
 // The wide air's table, as `table_for` makes it of the columns above.
-pub fn wide_table() -> Tabled
+pub fn wide_table() -> Result<Table, Refusal>
     ensures { result ≡ tabled wide_air }
 {
-    let limits = wide_limits();
-    table_for(
-        &AWGN_THRESHOLD_DB,
-        &PAYLOAD_BYTES,
-        &CAPACITY_BYTES,
-        &FRAME_S,
-        6,
-        limits,
-        20,
-    )
+    table_for(&WIDE)
 }
 
 // The narrow air's.
-pub fn narrow_table() -> Tabled
+pub fn narrow_table() -> Result<Table, Refusal>
     ensures { result ≡ tabled narrow_air }
 {
-    let limits = narrow_limits();
-    table_for(
-        &NARROW_AWGN_THRESHOLD_DB,
-        &NARROW_PAYLOAD_BYTES,
-        &NARROW_CAPACITY_BYTES,
-        &NARROW_FRAME_S,
-        5,
-        limits,
-        15,
-    )
+    table_for(&NARROW)
 }

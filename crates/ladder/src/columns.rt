@@ -1,104 +1,117 @@
-// Whether columns of a table are as they must be: their sizes, and their values within the limits.
-ghost use Rattle.std.specs.Prelude.{◌&&◌, ◌≡◌, ◌≤◌, eqb, take};
+// What a table is made of: a column each, and whether the columns are as they must be: their sizes, and their values within the limits.
+ghost use Rattle.std.specs.Prelude.{◌≡◌, IsTrue};
 ghost use Rattle.limits.specs.Values.{ok_db, ok_air, ok_bytes};
-ghost use Rattle.ladder.specs.Lists.{every};
 ghost use Rattle.limits.specs.Readings.{ok_limit};
+ghost use Rattle.ladder.specs.Lists.{every};
 ghost use Rattle.ladder.specs.Columns.{ok_size};
 
-use limits::reading::Reading;
+use crate::types::Row;
+use limits::reading::{Reading, ok_limit};
+use limits::values::{ok_air, ok_bytes, ok_db};
+use std::array;
+
+// The columns of a table that a caller lends, of which the first `floors` rungs are floor. The echo limits may be fewer: there is none past them.
+#[derive(Clone, Copy)]
+pub struct Columns<'a> {
+    pub thresholds: &'a [f64],
+    pub payloads: &'a [u32],
+    pub capacities: &'a [u32],
+    pub times: &'a [f64],
+    pub limits: &'a [Reading],
+    pub floors: u32,
+}
 
 // A column of 1 to 32 entries.
 pub(crate) fn ok_size(n: usize) -> bool
     ensures { result ≡ ok_size n }
 {
-    if n < 1 { false } else { n <= 32 }
-}
-
-// Three columns of 1 to 32 entries.
-pub(crate) fn ok_sizes(a: usize, b: usize, c: usize) -> bool
-    ensures { result ≡ (ok_size a && ok_size b && ok_size c) }
-{
-    if !ok_size(a) {
-        return false;
-    }
-    if !ok_size(b) {
-        return false;
-    }
-    ok_size(c)
-}
-
-// Three columns of one length, the first's.
-pub(crate) fn same_sizes(a: usize, b: usize, c: usize) -> bool
-    ensures { result ≡ (eqb b a && eqb c a) }
-{
-    if b == a { c == a } else { false }
+    (1..=32).contains(&n)
 }
 
 // A column of values in dB.
 pub(crate) fn all_db(column: &[f64]) -> bool
     ensures { result ≡ every ok_db column.now }
 {
-    let mut i = 0;
-    while i < column.len() {
-        if !limits::values::ok_db(column[i]) {
-            return false;
-        }
-        i += 1;
-    }
-    true
+    column.iter().copied().all(ok_db)
 }
 
 // A column of frame times.
 pub(crate) fn all_air(column: &[f64]) -> bool
     ensures { result ≡ every ok_air column.now }
 {
-    let mut i = 0;
-    while i < column.len() {
-        if !limits::values::ok_air(column[i]) {
-            return false;
-        }
-        i += 1;
-    }
-    true
+    column.iter().copied().all(ok_air)
 }
 
 // A column of payloads or of capacities.
 pub(crate) fn all_bytes(column: &[u32]) -> bool
     ensures { result ≡ every ok_bytes column.now }
 {
-    let mut i = 0;
-    while i < column.len() {
-        if !limits::values::ok_bytes(column[i]) {
-            return false;
-        }
-        i += 1;
-    }
-    true
+    column.iter().copied().all(ok_bytes)
 }
 
-// What a rung's rate and place are told by: thresholds and payloads.
-pub(crate) fn ok_rates(thresholds: &[f64], payload: &[u32]) -> bool
-    ensures { result ≡ (every ok_db thresholds.now && every ok_bytes payload.now) }
+// A column of echo limits.
+fn all_limits(column: &[Reading]) -> bool
+    ensures { result ≡ every ok_limit column.now }
 {
-    if !all_db(thresholds) {
-        return false;
-    }
-    all_bytes(payload)
+    column.iter().copied().all(ok_limit)
 }
 
-// The first `limited` of the echo limits.
-pub(crate) fn all_limits(column: [Reading; 32], limited: u32) -> bool
-    requires { limited ≤ 32 }
-    ensures { result ≡ every ok_limit (take limited column) }
-{
-    let n = limited as usize;
-    let mut i = 0;
-    while i < n {
-        let limit = column[i];
-        if !limits::reading::ok_limit(limit) {
-            return false;
-        }
-        i += 1;
+impl Columns<'_> {
+    ghost use Rattle.ladder.specs.bridges.Lent.{lent};
+    ghost use Rattle.ladder.specs.Tables.{ok_sizes, same_sizes, ok_values, row_of, rows_of};
+
+    // Whether each column has the size that it may have.
+    pub(crate) fn ok_sizes(&self) -> bool
+        ensures { result ≡ ok_sizes (lent self.now) }
+    {
+        ok_size(self.thresholds.len())
+            && ok_size(self.payloads.len())
+            && ok_size(self.capacities.len())
+            && ok_size(self.times.len())
+            && self.limits.len() <= 32
     }
-    true
+
+    // Whether the columns have one length.
+    pub(crate) fn same_sizes(&self) -> bool
+        ensures { result ≡ same_sizes (lent self.now) }
+    {
+        let n = self.thresholds.len();
+        self.payloads.len() == n && self.capacities.len() == n && self.times.len() == n
+    }
+
+    // Whether each value is within its limits.
+    pub(crate) fn ok_values(&self) -> bool
+        ensures { result ≡ ok_values (lent self.now) }
+    {
+        all_db(self.thresholds)
+            && all_bytes(self.payloads)
+            && all_bytes(self.capacities)
+            && all_air(self.times)
+            && all_limits(self.limits)
+    }
+
+    // The row of rung `r`, or the row past the last rung.
+    #[tactic(auto, using(crate::proofs::Accepted::table_lengths))]
+    fn row(&self, r: usize) -> Row
+        requires { IsTrue (same_sizes (lent self.now)) }
+        ensures { result ≡ row_of (lent self.now) r }
+    {
+        if r >= self.thresholds.len() {
+            return Row::NONE;
+        }
+        Row {
+            threshold: self.thresholds[r],
+            capacity: self.capacities[r],
+            time: self.times[r],
+            limit: self.limits.get(r).copied().flatten(),
+        }
+    }
+
+    // The rows of the rungs, and past them those of no rung.
+    pub(crate) fn rows(&self) -> [Row; 32]
+        requires { IsTrue (same_sizes (lent self.now)) }
+        ensures { result ≡ rows_of (lent self.now) }
+    {
+        array::from_fn(|r| self.row(r))
+    }
 }

@@ -2,8 +2,7 @@
 #![tactic(auto)]
 
 pub mod airs;
-mod columns;
+pub mod columns;
 pub mod front;
-pub mod read;
 pub mod table;
 pub mod types;

@@ -1,9 +1,7 @@
 -- "What is turned away": this paper's number for each cause. Definitions only.
-use Rattle.std.specs.Prelude.{Bool, cond, ℕ}
+use Rattle.std.specs.Prelude.{Bool, cond, ℕ, Result, Ok, Err}
 pub use Rattle.limits.specs.declared.refusal.Refusal.{Refusal}
 pub use Rattle.limits.specs.declared.refusal.Refusal.TheVariants.{ColumnSize, ColumnsDiffer, TableValue, FloorCount, EmptyFront, UnknownRung, TooManyFrames, OutsideLimits, TooManyBursts, FileHeader, FilePairs, FileBody, SheetRoom, AnswerCount}
-pub use Rattle.limits.specs.declared.refusal.Verdict.{Verdict}
-pub use Rattle.limits.specs.declared.refusal.Verdict.TheVariants.{Accepted, Refused}
 
 abbrev pub refusal_number : Refusal → ℕ
 -- "a table column has 0 or over 32 entries (echo column: over 32)"
@@ -35,11 +33,15 @@ refusal_number SheetRoom = 13
 -- "answer count differs from event count"
 refusal_number AnswerCount = 14
 
+-- what a call says of its arguments
+abbrev pub Verdict : Type 0
+Verdict = Result Unit Refusal
+
 -- refused, unless the test holds
 abbrev pub unless : Bool → Refusal → Verdict
-unless ok why = cond ok Accepted (Refused why)
+unless ok why = cond ok (Ok tt) (Err why)
 
 -- of two tests in a row the first that refuses decides
 abbrev pub or_else : Verdict → Verdict → Verdict
-or_else Accepted later = later
-or_else (Refused why) later = Refused why
+or_else (Ok _) later = later
+or_else (Err why) later = Err why

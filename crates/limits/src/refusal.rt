@@ -1,76 +1,59 @@
 // The causes of a refusal. The paper's number for each is `refusal_number` of specs/Refusals.antt.
 ghost use Rattle.std.specs.Prelude.{◌≡◌};
-ghost use Rattle.limits.specs.Refusals.{refusal_number, or_else};
+ghost use Rattle.limits.specs.Refusals.{refusal_number};
 
-#[derive(Clone, Copy)]
+use std::error::Error;
+use std::fmt;
+
+// The cause of a refusal, with the number that the paper gives it.
+#[derive(Clone, Copy, PartialEq, Eq, Debug)]
 pub enum Refusal {
     // A table column has 0 or over 32 entries (echo column: over 32).
-    ColumnSize,
+    ColumnSize = 1,
     // Threshold, payload, capacity and frame-time columns differ in length.
-    ColumnsDiffer,
+    ColumnsDiffer = 2,
     // A table value is outside its limits.
-    TableValue,
+    TableValue = 3,
     // More floor rungs than rungs.
-    FloorCount,
+    FloorCount = 4,
     // The front is empty.
-    EmptyFront,
+    EmptyFront = 5,
     // The rung is not in the table.
-    UnknownRung,
+    UnknownRung = 6,
     // Over 256 frames.
-    TooManyFrames,
+    TooManyFrames = 7,
     // A reading, air, capacity, price, gap, burst count or argument of `decode_probability` is outside its limits.
-    OutsideLimits,
+    OutsideLimits = 8,
     // Over 32 burst counts.
-    TooManyBursts,
+    TooManyBursts = 9,
     // The question file's size, air or event count.
-    FileHeader,
+    FileHeader = 10,
     // The pairs break their rule or run past the file.
-    FilePairs,
+    FilePairs = 11,
     // A body breaks its kind's form.
-    FileBody,
+    FileBody = 12,
     // The whole sheet is longer than the output slice.
-    SheetRoom,
+    SheetRoom = 13,
     // The answer count differs from the event count.
-    AnswerCount,
+    AnswerCount = 14,
 }
 
 // What a call says of its arguments.
-#[derive(Clone, Copy)]
-pub enum Verdict {
-    Accepted,
-    Refused(Refusal),
-}
+pub type Verdict = Result<(), Refusal>;
 
 impl Refusal {
     // The number that the paper gives the cause.
     pub fn number(self) -> u32
         ensures { result ≡ refusal_number self }
     {
-        match self {
-            Refusal::ColumnSize => 1,
-            Refusal::ColumnsDiffer => 2,
-            Refusal::TableValue => 3,
-            Refusal::FloorCount => 4,
-            Refusal::EmptyFront => 5,
-            Refusal::UnknownRung => 6,
-            Refusal::TooManyFrames => 7,
-            Refusal::OutsideLimits => 8,
-            Refusal::TooManyBursts => 9,
-            Refusal::FileHeader => 10,
-            Refusal::FilePairs => 11,
-            Refusal::FileBody => 12,
-            Refusal::SheetRoom => 13,
-            Refusal::AnswerCount => 14,
-        }
+        self as u32
     }
 }
 
-// Of two tests in a row, the first that refuses.
-pub fn or_else(v: Verdict, later: Verdict) -> Verdict
-    ensures { result ≡ or_else v later }
-{
-    match v {
-        Verdict::Accepted => later,
-        Verdict::Refused(why) => Verdict::Refused(why),
+impl fmt::Display for Refusal {
+    fn fmt<W: fmt::Write>(&self, f: &mut fmt::Formatter<W>) -> fmt::Result {
+        write!(f, "refused {}", self.number())
     }
 }
+
+impl Error for Refusal {}

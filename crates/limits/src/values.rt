@@ -3,10 +3,11 @@ ghost use Rattle.std.specs.Prelude.{◌≡◌};
 ghost use Rattle.float.specs.Numbers.{within};
 ghost use Rattle.limits.specs.Values.{ok_db, ok_slope, ok_air, ok_length, ok_bytes, ok_burst, ok_share};
 
+// (A range's `contains` goes by `partial_cmp`, which compiles to a third comparison.)
 fn is_within(lo: f64, hi: f64, x: f64) -> bool
     ensures { result ≡ within lo hi x }
 {
-    if x >= lo { x <= hi } else { false }
+    lo <= x && x <= hi
 }
 
 // A value in dB.

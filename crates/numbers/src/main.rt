@@ -3,9 +3,9 @@
 // number of the refusal. What the Rust reading of document 01 answered is in the file stdout, which the gate holds this program to.
 #![tactic(auto)]
 
-ghost use Rattle.std.specs.Prelude.{◌<◌, ◌≤◌, length};
-
-use half::logistic::Probability;
+use float::bits::{bits_of, float_of};
+use half::logistic::{decode_probability, exp};
+use half::power::half;
 use std::io;
 use std::io::Read;
 
@@ -13,90 +13,52 @@ use std::io::Read;
 const LINE: usize = 53;
 
 // The most bytes of an input that are read.
-const ROOM: usize = 65536;
-
-fn byte_at(text: &[u8], at: usize) -> u8 {
-    if at < text.len() { text[at] } else { 0 }
-}
+const ROOM: u64 = 65536;
 
 // The value of a hexadecimal digit; 0 for any other byte.
-fn digit(b: u8) -> u64
-    ensures { result < 16 }
-{
-    if b >= 48 {
-        if b <= 57 {
-            return (b - 48) as u64;
-        }
+fn digit(b: u8) -> u64 {
+    match b {
+        b'0'..=b'9' => u64::from(b - b'0'),
+        b'a'..=b'f' => u64::from(b - b'a') + 10,
+        _ => 0,
     }
-    if b >= 97 {
-        if b <= 102 {
-            return (b - 87) as u64;
-        }
-    }
-    0
 }
 
-// The 16 digits at a place.
-fn field(text: &[u8], at: usize) -> u64
-    requires { at ≤ 65536 }
-{
-    let mut bits: u64 = 0;
-    let mut i = 0;
-    while i < 16 {
-        bits = bits % 0x1000_0000_0000_0000 * 16 + digit(byte_at(text, at + i));
-        i += 1;
-    }
-    bits
+// The f64 of a pattern's digits.
+fn float(digits: &[u8]) -> f64 {
+    float_of(digits.iter().fold(0, |bits, &b| bits << 4 | digit(b)))
 }
 
 // Writes an answer's line.
 fn put(rt: &impl Print, kind: u8, bits: u64) -> io::Result<()> {
-    let head = [kind, b' '];
-    rt.write_all(&head)?;
+    rt.write_all(&[kind, b' '])?;
     println!(rt; "{bits:016x}")
 }
 
-fn answer(rt: &impl Print, kind: u8, a: u64, b: u64, c: u64) -> io::Result<()> {
-    let x = float::bits::float_of(a);
-    if kind == b'h' {
-        return put(rt, kind, float::bits::bits_of(half::power::half(x)));
-    }
-    if kind == b'e' {
-        return put(rt, kind, float::bits::bits_of(half::logistic::exp(x)));
-    }
-    let p = half::logistic::decode_probability(
-        x,
-        float::bits::float_of(b),
-        float::bits::float_of(c),
-    );
-    match p {
-        Probability::Refused(why) => put(rt, b'r', why.number() as u64),
-        Probability::Of(y) => put(rt, kind, float::bits::bits_of(y)),
+fn answer(rt: &impl Print, line: &[u8; LINE]) -> io::Result<()> {
+    let kind = line[0];
+    let x = float(&line[2..18]);
+    match kind {
+        b'h' => put(rt, kind, bits_of(half(x))),
+        b'e' => put(rt, kind, bits_of(exp(x))),
+        _ => match decode_probability(x, float(&line[19..35]), float(&line[36..52])) {
+            Ok(p) => put(rt, kind, bits_of(p)),
+            Err(why) => put(rt, b'r', u64::from(why.number())),
+        },
     }
 }
 
 // Answers each whole line.
-fn replay(rt: &impl Print, text: &[u8]) -> io::Result<()>
-    requires { length text.now ≤ 65536 }
-{
-    let mut i = 0;
-    while i < text.len() / LINE {
-        let at = i * LINE;
-        answer(
-            rt,
-            byte_at(text, at),
-            field(text, at + 2),
-            field(text, at + 19),
-            field(text, at + 36),
-        )?;
-        i += 1;
+fn replay(rt: &impl Print, text: &[u8]) -> io::Result<()> {
+    let (lines, _) = text.as_chunks::<LINE>();
+    for line in lines {
+        answer(rt, line)?;
     }
     Ok(())
 }
 
 fn main(rt: HostRuntime) -> io::Result<()> {
     let mut text = Vec::new(rt.alloc());
-    rt.reader().take(ROOM as u64).read_to_end(&mut text)?;
-    let n = text.len().min(ROOM);
-    replay(&rt, &text[..n])
+    rt.reader().take(ROOM).read_to_end(&mut text)?;
+    replay(&rt, &text)
 }

@@ -5,13 +5,14 @@
 // answered is in the file stdout, which the gate holds this program to.
 #![tactic(auto)]
 
-ghost use Rattle.std.specs.Prelude.{◌<◌, ◌≤◌};
+ghost use Rattle.std.specs.Prelude.{◌<◌, ◌≤◌, length, IfSome};
 
-use ladder::front::Usable;
-use ladder::table::Tabled;
+use ladder::columns::Columns;
+use ladder::front::usable_modes_by_rate;
+use ladder::table::table_for;
 use ladder::types::Rung;
 use limits::reading::Reading;
-use limits::refusal::Verdict;
+use std::alloc::{AllocError, Global};
 use std::io;
 use std::io::Read;
 
@@ -19,241 +20,136 @@ use std::io::Read;
 const HEAD: usize = 10;
 
 // The most bytes of an input that are read.
-const ROOM: usize = 65536;
+const ROOM: u64 = 65536;
 
-// Where the columns of a record begin, and where it ends.
+// The bytes of a record's columns, and its count of floor rungs.
 #[derive(Clone, Copy)]
-struct Places {
-    payloads: usize,
-    capacities: usize,
-    times: usize,
-    limits: usize,
-    end: usize,
+struct Record<'a> {
+    thresholds: &'a [u8],
+    payloads: &'a [u8],
+    capacities: &'a [u8],
+    times: &'a [u8],
+    limits: &'a [u8],
+    floors: u32,
 }
 
-// ---- reading: each function reads at the start of the bytes that it is lent, and zeros past their end
-// The bytes from a place on: none past their end.
-fn from(bytes: &[u8], at: usize) -> &[u8] {
-    if at <= bytes.len() {
-        return &bytes[at..];
-    }
-    &bytes[..0]
+// ---- reading
+fn float_at(bytes: &[u8; 8]) -> f64 {
+    float::bits::float_of(u64::from_le_bytes(*bytes))
 }
 
-fn wide(b: u8) -> u32
-    ensures { result < 256 }
+fn floats(alloc: Global, column: &[u8]) -> Result<Vec<f64>, AllocError> {
+    let (entries, _) = column.as_chunks::<8>();
+    entries.iter().map(float_at).collect(alloc)
+}
+
+fn wholes(alloc: Global, column: &[u8]) -> Result<Vec<u32>, AllocError> {
+    let (entries, _) = column.as_chunks::<4>();
+    entries
+        .iter()
+        .map(|&bytes| u32::from_le_bytes(bytes))
+        .collect(alloc)
+}
+
+// An entry's first byte says whether there is a limit.
+fn reading_at(entry: &[u8; 9]) -> Reading {
+    let limit = float_at(entry.last_chunk()?);
+    (entry[0] != 0).then_some(limit)
+}
+
+fn readings(alloc: Global, column: &[u8]) -> Result<Vec<Reading>, AllocError> {
+    let (entries, _) = column.as_chunks::<9>();
+    entries.iter().map(reading_at).collect(alloc)
+}
+
+// A column's bytes, where an entry has `size`, and what is behind them. A count over 40 is taken for 40.
+fn split_column(bytes: &[u8], count: u8, size: usize) -> Option<(&[u8], &[u8])>
+    requires { size < 10 }
+    ensures { IfSome result (λ p. length p.1.now ≤ length bytes.now) }
 {
-    b as u32
+    bytes.split_at_checked(usize::from(count.min(40)) * size)
 }
 
-fn byte_at(bytes: &[u8], at: usize) -> u32
-    ensures { result < 256 }
+// The first record, and what is behind it.
+fn first_record(text: &[u8]) -> Option<(Record<'_>, &[u8])>
+    ensures { IfSome result (λ p. length p.1.now < length text.now) }
 {
-    if at < bytes.len() {
-        return wide(bytes[at]);
-    }
-    0
-}
-
-fn u32_of(bytes: &[u8]) -> u32 {
-    byte_at(bytes, 0)
-        + byte_at(bytes, 1) * 0x100
-        + byte_at(bytes, 2) * 0x1_0000
-        + byte_at(bytes, 3) * 0x100_0000
-}
-
-fn u64_of(bytes: &[u8]) -> u64 {
-    u32_of(bytes) as u64 + u32_of(from(bytes, 4)) as u64 * 0x1_0000_0000
-}
-
-fn f64_of(bytes: &[u8]) -> f64 {
-    float::bits::float_of(u64_of(bytes))
-}
-
-fn reading_of(bytes: &[u8]) -> Reading {
-    if byte_at(bytes, 0) == 0 {
-        return Reading::Missing;
-    }
-    Reading::Value(f64_of(from(bytes, 1)))
-}
-
-// The first 40 entries of a column of f64, as many as a record may have.
-fn floats(column: &[u8]) -> [f64; 40] {
-    let mut out = [0.0; 40];
-    let mut i = 0;
-    while i < 40 {
-        out[i] = f64_of(from(column, i * 8));
-        i += 1;
-    }
-    out
-}
-
-// The same of a column of u32.
-fn wholes(column: &[u8]) -> [u32; 40] {
-    let mut out = [0u32; 40];
-    let mut i = 0;
-    while i < 40 {
-        out[i] = u32_of(from(column, i * 4));
-        i += 1;
-    }
-    out
-}
-
-// The first 32 echo limits: more than the library takes are only counted.
-fn readings(column: &[u8]) -> [Reading; 32] {
-    let none = Reading::Missing;
-    let mut out = [none; 32];
-    let mut i = 0;
-    while i < 32 {
-        let limit = reading_of(from(column, i * 9));
-        out[i] = limit;
-        i += 1;
-    }
-    out
-}
-
-// How many entries a column has; a number over 40 is taken for 40.
-fn entries(record: &[u8], column: usize) -> usize
-    ensures { result ≤ 40 }
-{
-    let n = byte_at(record, column);
-    if n < 40 { n as usize } else { 40 }
-}
-
-fn places_of(record: &[u8]) -> Places
-    ensures { 0 < result.end }
-{
-    let payloads = HEAD + entries(record, 0) * 8;
-    let capacities = payloads + entries(record, 1) * 4;
-    let times = capacities + entries(record, 2) * 4;
-    let limits = times + entries(record, 3) * 8;
-    let end = limits + entries(record, 4) * 9;
-    Places {
+    let (head, rest) = text.split_first_chunk::<HEAD>()?;
+    let (thresholds, rest) = split_column(rest, head[0], 8)?;
+    let (payloads, rest) = split_column(rest, head[1], 4)?;
+    let (capacities, rest) = split_column(rest, head[2], 4)?;
+    let (times, rest) = split_column(rest, head[3], 8)?;
+    let (limits, rest) = split_column(rest, head[4], 9)?;
+    let floors = u32::from_le_bytes([head[6], head[7], head[8], head[9]]);
+    let record = Record {
+        thresholds,
         payloads,
         capacities,
         times,
         limits,
-        end,
-    }
+        floors,
+    };
+    Some((record, rest))
 }
 
 // ---- writing: each number behind a space
-fn put_number(rt: &impl Print, n: u32) -> io::Result<()> {
-    print!(rt; " {n}")
-}
-
-fn most(count: u32) -> usize
-    ensures { result ≤ 32 }
-{
-    if count < 32 { count as usize } else { 32 }
-}
-
-fn put_rungs(rt: &impl Print, rungs: [Rung; 32], count: u32) -> io::Result<()> {
-    let n = most(count);
-    let mut i = 0;
-    while i < n {
-        let rung = rungs[i];
-        put_number(rt, rung.0)?;
-        i += 1;
+fn put_rungs(rt: &impl Print, rungs: &[Rung]) -> io::Result<()> {
+    for rung in rungs {
+        let number = rung.0;
+        print!(rt; " {number}")?;
     }
     Ok(())
 }
 
-// Writes the front, or the number of the refusal.
-fn put_answer(rt: &impl Print, verdict: Verdict, rungs: [Rung; 32], count: u32) -> io::Result<()> {
-    match verdict {
-        Verdict::Refused(why) => put_number(rt, why.number()),
-        Verdict::Accepted => put_rungs(rt, rungs, count),
-    }
-}
-
-fn put_word(rt: &impl Print, verdict: Verdict) -> io::Result<()> {
-    match verdict {
-        Verdict::Refused(_) => rt.write_all(b"refused"),
-        Verdict::Accepted => rt.write_all(b"front"),
-    }
-}
-
-fn put_table(rt: &impl Print, made: Tabled) -> io::Result<()> {
-    let verdict = made.verdict;
-    let table = made.table;
-    let front = table.front;
-    let air = table.air;
-    put_word(rt, verdict)?;
-    put_answer(rt, verdict, front, air.places)
-}
-
-fn put_usable(rt: &impl Print, usable: Usable) -> io::Result<()> {
-    let verdict = usable.verdict;
-    let front = usable.front;
-    let rungs = front.rungs;
-    rt.write_all(b" usable")?;
-    put_answer(rt, verdict, rungs, front.count)?;
-    rt.write_all(b"\n")
-}
-
-// ---- the records
 // Writes the line of a table of these columns.
-fn put_line(
-    rt: &impl Print,
-    thresholds: &[f64],
-    payloads: &[u32],
-    capacities: &[u32],
-    times: &[f64],
-    floors: u32,
-    limits: [Reading; 32],
-    limited: u32,
-) -> io::Result<()> {
-    let made = ladder::table::table_for(
-        thresholds, payloads, capacities, times, floors, limits, limited,
-    );
-    put_table(rt, made)?;
-    let usable = ladder::front::usable_modes_by_rate(thresholds, payloads, times);
-    put_usable(rt, usable)
+fn put_line(rt: &impl Print, columns: &Columns) -> io::Result<()> {
+    match table_for(columns) {
+        Ok(table) => {
+            print!(rt; "front")?;
+            put_rungs(rt, table.front())?;
+        }
+        Err(why) => print!(rt; "{why}")?,
+    }
+    print!(rt; " usable")?;
+    match usable_modes_by_rate(columns.thresholds, columns.payloads, columns.times) {
+        Ok(front) => put_rungs(rt, front.rungs())?,
+        Err(why) => {
+            let number = why.number();
+            print!(rt; " {number}")?;
+        }
+    }
+    println!(rt)
 }
 
 // Answers a record.
-fn answer(rt: &impl Print, record: &[u8], at: Places) -> io::Result<()> {
-    let thresholds = floats(from(record, HEAD));
-    let payloads = wholes(from(record, at.payloads));
-    let capacities = wholes(from(record, at.capacities));
-    let times = floats(from(record, at.times));
-    let limits = readings(from(record, at.limits));
-    let floors = u32_of(from(record, 6));
-    let limited = entries(record, 4) as u32;
-    let n = entries(record, 0);
-    let p = entries(record, 1);
-    let c = entries(record, 2);
-    let t = entries(record, 3);
-    put_line(
-        rt,
-        &thresholds[..n],
-        &payloads[..p],
-        &capacities[..c],
-        &times[..t],
-        floors,
-        limits,
-        limited,
-    )
+fn answer(rt: &impl Print, alloc: Global, record: &Record) -> io::Result<()> {
+    let thresholds = floats(alloc, record.thresholds)?;
+    let payloads = wholes(alloc, record.payloads)?;
+    let capacities = wholes(alloc, record.capacities)?;
+    let times = floats(alloc, record.times)?;
+    let limits = readings(alloc, record.limits)?;
+    let columns = Columns {
+        thresholds: &thresholds,
+        payloads: &payloads,
+        capacities: &capacities,
+        times: &times,
+        limits: &limits,
+        floors: record.floors,
+    };
+    put_line(rt, &columns)
 }
 
 // Answers each whole record. A record that runs past the end is not answered.
-fn replay(rt: &impl Print, text: &[u8]) -> io::Result<()> {
-    let mut at = 0;
-    while at < text.len() {
-        let rest = &text[at..];
-        let places = places_of(rest);
-        if places.end > rest.len() {
-            return Ok(());
-        }
-        answer(rt, rest, places)?;
-        at += places.end;
+fn replay(rt: &impl Print, alloc: Global, mut text: &[u8]) -> io::Result<()> {
+    while let Some((record, rest)) = first_record(text) {
+        answer(rt, alloc, &record)?;
+        text = rest;
     }
     Ok(())
 }
 
 fn main(rt: HostRuntime) -> io::Result<()> {
     let mut text = Vec::new(rt.alloc());
-    rt.reader().take(ROOM as u64).read_to_end(&mut text)?;
-    replay(&rt, &text)
+    rt.reader().take(ROOM).read_to_end(&mut text)?;
+    replay(&rt, rt.alloc(), &text)
 }

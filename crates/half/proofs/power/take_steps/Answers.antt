@@ -27,10 +27,14 @@ returns-then-t c =
     let p = fraction t c.well_formed.0.1 c.if-t.true c.requires in
     let h = taken t p in
     let l = small t p in
-    rw (c.truncating_f64_to_u64-n.ensures, counted t p) (h.0, h.1, h.2, omega arith, omega arith)
+    rw (c.truncating_f64_to_u64-n.ensures, counted t p) (record { rest = h.0; part = (h.1, omega arith); whole = (h.2, omega arith) })
 
 pub returns : goal.returns
 returns c =
     let t = c.args.t in
     let h = none t (subst (λ (b : Bool). T (not b)) (sym c.if-t.false) tt) in
-    (sym (ap (λ (z : Float × ℕ). z.0) h.1), sym (ap (λ (z : Float × ℕ). z.1) h.1), sym (ap (λ (z : Float × ℕ). z.1) h.0), lit< tt, lit< tt)
+    record {
+      rest = sym (ap (λ (z : Float × ℕ). z.0) h.1);
+      part = (sym (ap (λ (z : Float × ℕ). z.1) h.1), lit< tt);
+      whole = (sym (ap (λ (z : Float × ℕ). z.1) h.0), lit< tt);
+    }

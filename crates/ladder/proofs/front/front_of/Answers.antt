@@ -1,11 +1,12 @@
 -- The array holds the rungs selected so far.
-use Rattle.std.proofs.Common.{ap}
+use Rattle.std.proofs.Common.{ap, ◌∙◌}
 use Rattle.std.specs.Prelude.{not}
 use native.Mathlib.Omega.{arith}
 use lib.ListN.{length}
 use borrow.Author.Rules.{rules}
 use Rattle.ladder.specs.Front.{beaten, front_of}
 use Rattle.ladder.proofs.Filling.{filling_starts, filling_takes, filling_leaves, filling_ends}
+use Rattle.ladder.proofs.Worths.{beaten_by_worths}
 use Rattle.ladder.proofs.front.front_of.Goals as goal
 use Rattle.ladder.proofs.front.front_of.Goals.{then-not-is_beaten, else-not-is_beaten}
 
@@ -26,7 +27,8 @@ loop-m-preserved c =
     let n = length a.thresholds.now in
     let l = c.loop-m in
     let answer = c.is_beaten.result in
-    let said = c.is_beaten.ensures a.payload.now a.frame_s.now c.worths_of-worths.ensures in (
+    let told = rw c.worths_of-worths.ensures at c.is_beaten.ensures in
+    let said = told ∙ beaten_by_worths a.thresholds.now a.payload.now a.frame_s.now (omega arith) l.m (omega arith) in (
       omega arith,
       elim c.if-not-is_beaten.branch [
         | then-not-is_beaten w ↦ rw (w.rungs-is, w.places-is) (filling_takes out n l.m l.rungs l.places l.invariant.1 answer (omega arith) said (omega arith) (ap not w.if-not-is_beaten.true))

@@ -1,32 +1,14 @@
--- Whether one from `other` on beats the rung is whether one of them all does, of whichever columns the worths are.
-use mathlib.Core.Path.{refl, ◌∙◌}
-use native.Mathlib.Nat.{sub-zero}
-use native.Mathlib.Omega.{arith}
-use lib.ListN.{length}
-use Rattle.ladder.specs.Front.{beats, beaten}
-use Rattle.ladder.proofs.Ranges.{some_here, some_later, some_nowhere}
+-- `any` over the rungs is `some_from` over them.
+use Rattle.std.proofs.Common.{◌∙◌, length, arith, rules, tests}
+use Rattle.std.proofs.lemmas.Iterator.{YieldsList-from_range}
+use Rattle.std.proofs.lemmas.Iterator.Search.{any_from_yields_List}
+use Rattle.ladder.specs.bridges.Worths.{beats_with}
+use Rattle.ladder.proofs.Ranges.{list_any-range}
 use Rattle.ladder.proofs.front.is_beaten.Goals as goal
 
-pub loop-other-init : goal.loop-other-init
-unfolding beaten
-loop-other-init c payloads times e = rw sub-zero refl
-
-pub returns-then-beats : goal.returns-then-beats
-returns-then-beats c payloads times e =
-    let a = c.args in
-    let tests = beats a.thresholds.now payloads times a.m in
-    some_here tests (length a.thresholds.now) c.loop-other.other c.beats.result (omega arith) (c.beats.ensures payloads times e) c.if-beats.true ∙ c.loop-other.invariant payloads times e
-
-pub loop-other-smaller : goal.loop-other-smaller
-loop-other-smaller c = omega arith
-
-pub loop-other-preserved : goal.loop-other-preserved
-loop-other-preserved c payloads times e =
-    let a = c.args in
-    let tests = beats a.thresholds.now payloads times a.m in
-    some_later tests (length a.thresholds.now) c.loop-other.other c.beats.result (omega arith) (c.beats.ensures payloads times e) c.if-beats.false ∙ c.loop-other.invariant payloads times e
-
 pub returns : goal.returns
-returns c payloads times e =
+returns c =
     let a = c.args in
-    some_nowhere (beats a.thresholds.now payloads times a.m) (length a.thresholds.now) c.loop-other.other (omega arith) ∙ c.loop-other.invariant payloads times e
+    let n = length a.thresholds.now in
+    let test = beats_with a.thresholds.now a.worths.now a.m in
+    any_from_yields_List test _ _ _ c.any.ensures.ran (YieldsList-from_range 0 n n (cc) (omega arith)) (λ x b q k. search (rules, tests)) ∙ list_any-range test n 0

@@ -1,9 +1,0 @@
--- The measure is what is left of the 16 digits.
-use Rattle.std.proofs.Common.{◌≤◌, ◌-◌}
-use Rattle.numbers.proofs.field.Given as goal
-
-abbrev pub invariant-loop-i : goal.invariant-loop-i
-invariant-loop-i l = l.i ≤ 16
-
-abbrev pub decreases-loop-i : goal.decreases-loop-i
-decreases-loop-i l = 16 - l.i

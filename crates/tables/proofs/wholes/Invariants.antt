@@ -1,9 +1,0 @@
--- The measure is what is left of the 40 entries.
-use Rattle.std.proofs.Common.{◌≤◌, ◌-◌}
-use Rattle.tables.proofs.wholes.Given as goal
-
-abbrev pub invariant-loop-i : goal.invariant-loop-i
-invariant-loop-i l = l.i ≤ 40
-
-abbrev pub decreases-loop-i : goal.decreases-loop-i
-decreases-loop-i l = 40 - l.i
