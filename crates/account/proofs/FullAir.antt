@@ -1,7 +1,7 @@
 -- The air of a full transmission is finite and at least 0, for a burst count up to 1,000 and a frame time within its limits; a wait of up to 48 of them is at
 -- least 0. Assumes nothing.
 use mathlib.Core.Path.{subst}
-use Rattle.std.specs.Prelude.{ℕ, ◌<◌, ◌≤◌, false, T, ltb, get_or}
+use Rattle.std.specs.Prelude.{ℕ, ◌<◌, ◌≤◌, false, T, ltb, get_or, Option, None, Some, unwrap_or}
 use native.Mathlib.Omega.{arith}
 use lib.Dec.{ltb→lt}
 use lib.Pow.{pow_pos}
@@ -51,16 +51,21 @@ air_finite x h = between_limits zero64 x f60 tt sixty_finite (air_natural x h) (
 
 -- ---- the air of a full transmission
 -- what is asked of the prices set
-abbrev pub TariffSound : Tariff → Type 0
-TariffSound p = (r : ℕ) → r < p.counted → get_or p.bursts r 0 ≤ 1000
+abbrev pub TariffSound : Option Tariff → Type 0
+TariffSound None = Unit
+TariffSound (Some p) = (r : ℕ) → r < p.counted → get_or p.bursts r 0 ≤ 1000
 
 most_finite : T (finite (of_nat 1000 ⊗ f60))
 unfolding of_int round mul of_bits
 most_finite = tt
 
-module _ (t : Table) (p : Tariff) (ts : TableSound t) (ps : TariffSound p) (r : ℕ) (h : r < rungs_of t) where
+given_small : (p : Option Tariff) → TariffSound p → (r : ℕ) → burst_or p r 1 ≤ 1000
+given_small None ps r = omega arith
+given_small (Some p) ps r = pick_by (λ (o : Option ℕ). unwrap_or o 1 ≤ 1000) (ltb r p.counted) (λ e. ps r (ltb→lt r p.counted (yes_of e))) (λ e. omega arith)
+
+module _ (t : Table) (p : Option Tariff) (ts : TableSound t) (ps : TariffSound p) (r : ℕ) (h : r < rungs_of t) where
   burst_small : burst_or p r 1 ≤ 1000
-  burst_small = pick_by (λ (n : ℕ). n ≤ 1000) (ltb r p.counted) (λ e. ps r (ltb→lt r p.counted (yes_of e))) (λ e. omega arith)
+  burst_small = given_small p ps r
 
   burst_finite : T (finite (of_nat (burst_or p r 1)))
   burst_finite = between_limits zero64 (of_nat (burst_or p r 1)) (of_nat 1000) tt thousand_finite (of_natural (burst_or p r 1)) (of_mono (burst_or p r 1) 1000 burst_small)
@@ -97,7 +102,7 @@ wait_fits w h =
     let k = of_mono w 48 h in
     (between_limits zero64 (of_nat w) (of_nat 48) tt longest_finite (of_natural w) k, of_natural w, k)
 
-pub seconds_natural : (t : Table) (p : Tariff) (s : State) (r : ℕ) → TableSound t → TariffSound p → r < rungs_of t → IsWait (wait_of s r) → natural (wait_seconds t p s r)
+pub seconds_natural : (t : Table) (p : Option Tariff) (s : State) (r : ℕ) → TableSound t → TariffSound p → r < rungs_of t → IsWait (wait_of s r) → natural (wait_seconds t p s r)
 unfolding wait_seconds
 seconds_natural t p s r ts ps h w =
     let k = wait_fits (wait_of s r) w in

@@ -1,14 +1,12 @@
 -- "Accounts, prior and price". Definitions only.
-use Rattle.std.specs.Prelude.{ℕ, Bool, cond, not, ◌&&◌, ◌==◌, nat_lt, slice_index}
-use Rattle.std.specs.Prelude.{Float}
+use Rattle.std.specs.Prelude.{ℕ, Bool, cond, Option, None, Some, unwrap_or, ◌==◌, nat_lt, slice_index, Float}
 use Rattle.float.specs.Numbers.{◌⊕◌, ◌⊖◌, ◌⊗◌, ◌⊘◌, of_nat, f0, f½, f2}
 use Rattle.half.specs.Logistic.{decode_probability}
-use Rattle.limits.specs.declared.reading.Reading.{Reading}
-use Rattle.limits.specs.declared.reading.Reading.TheVariants.{Missing, Value}
+use Rattle.limits.specs.Readings.{Reading}
 use Rattle.ladder.specs.declared.types.Row.{Row}
 use Rattle.ladder.specs.declared.types.Table.{Table}
 use Rattle.ladder.specs.Types.{row, is_floor}
-use Rattle.account.specs.State.{Account, Families, Unset, Set, Tariff, Prices, State, account, wait_of}
+use Rattle.account.specs.State.{Account, Families, Tariff, Prices, State, account, wait_of}
 
 -- ---- prior and estimate
 -- the offset of the rung's family
@@ -24,8 +22,8 @@ chance t r off snr = chance_at (row t r).threshold t.air.margin off snr
 
 -- "prior = capacity × probability .., or 0 without SNR"
 abbrev pub prior_of : Row → Float → Float → Reading → Float
-prior_of a margin off Missing = f0
-prior_of a margin off (Value snr) = of_nat a.capacity ⊗ chance_at a.threshold margin off snr
+prior_of a margin off None = f0
+prior_of a margin off (Some snr) = of_nat a.capacity ⊗ chance_at a.threshold margin off snr
 
 abbrev pub prior : Table → ℕ → Float → Reading → Float
 prior t r off snr = prior_of (row t r) t.air.margin off snr
@@ -47,35 +45,40 @@ lossless t r = of_nat (row t r).capacity ⊘ (row t r).time
 
 -- ---- price
 -- "Control families are those last set, else the rung's."
-abbrev pub own_floor : Families → Bool → Bool
-own_floor Unset b = b
-own_floor (Set own other) b = own
+abbrev pub own_floor : Option Families → Bool → Bool
+own_floor None b = b
+own_floor (Some f) b = f.own_floor
 
-abbrev pub other_floor : Families → Bool → Bool
-other_floor Unset b = b
-other_floor (Set own other) b = other
+abbrev pub other_floor : Option Families → Bool → Bool
+other_floor None b = b
+other_floor (Some f) b = f.other_floor
 
 -- a control frame's length, on the floor or not
 abbrev pub control : Tariff → Bool → Float
 control p b = cond b p.floor p.ordinary
 
--- a burst count is absent past those given
-abbrev pub burst_or : Tariff → ℕ → ℕ → ℕ
-burst_or p r d = cond (nat_lt r p.counted) (slice_index p.bursts r) d
+-- a burst count, if it is given; it is absent past those given, and where no prices are set
+abbrev pub burst : Tariff → ℕ → Option ℕ
+burst p r = cond (nat_lt r p.counted) (Some (slice_index p.bursts r)) None
+
+abbrev pub burst_or : Option Tariff → ℕ → ℕ → ℕ
+burst_or None r d = d
+burst_or (Some p) r d = unwrap_or (burst p r) d
 
 -- "(own control + other control) + gap", of a rung that is floor or not
-abbrev pub overhead_of : Tariff → Families → Bool → Float
+abbrev pub overhead_of : Tariff → Option Families → Bool → Float
 overhead_of p families floor = control p (own_floor families floor) ⊕ control p (other_floor families floor) ⊕ p.gap
 
-abbrev pub overhead : Table → Prices → ℕ → Float
-overhead t p r = overhead_of p.tariff p.families (is_floor t r)
-
 -- "Price (`priced`), with burst n: (per-air × A)/(A + ((own control + other control) + gap)), A = n × frame time; unpriced, or n zero or absent: per-air itself."
-abbrev pub priced_of : Bool → ℕ → Float → Float → Float → Float
-priced_of given n time over x = cond (given && not (n == 0)) (let a = of_nat n ⊗ time in x ⊗ a ⊘ (a ⊕ over)) x
+abbrev pub priced_of : ℕ → Float → Float → Float → Float
+priced_of n time over x = cond (n == 0) x (let a = of_nat n ⊗ time in x ⊗ a ⊘ (a ⊕ over))
+
+abbrev pub priced_by : Option Tariff → Option Families → Table → ℕ → Float → Float
+priced_by None families t r x = x
+priced_by (Some p) families t r x = priced_of (burst_or (Some p) r 0) (row t r).time (overhead_of p families (is_floor t r)) x
 
 unfoldable pub priced : Table → Prices → ℕ → Float → Float
-priced t p r x = priced_of p.tariff.given (burst_or p.tariff r 0) (row t r).time (overhead t p r) x
+priced t p r x = priced_by p.tariff p.families t r x
 
 -- "`value` is the estimate priced; the lossless price is `lossless` priced."
 unfoldable pub value : Table → Prices → State → ℕ → Float
@@ -86,9 +89,9 @@ lossless_price t p r = priced t p r (lossless t r)
 
 -- ---- air and wait
 -- "A rung's air per full transmission is n × frame time, n = 1 where absent (0 stays 0)"
-unfoldable pub full_air : Table → Tariff → ℕ → Float
+unfoldable pub full_air : Table → Option Tariff → ℕ → Float
 full_air t p r = of_nat (burst_or p r 1) ⊗ (row t r).time
 
 -- "its wait in seconds is wait × that"
-unfoldable pub wait_seconds : Table → Tariff → State → ℕ → Float
+unfoldable pub wait_seconds : Table → Option Tariff → State → ℕ → Float
 wait_seconds t p s r = of_nat (wait_of s r) ⊗ full_air t p r

@@ -1,18 +1,12 @@
 -- What a controller holds beside its table: how it is read, changed and fresh. Each field that a step changes has its `with`. Definitions only.
-use Rattle.std.specs.Prelude.{ℕ, Bool, true, false, List, replicate, slice_index_or, slice_set}
-use Rattle.std.specs.Prelude.{Float}
+use Rattle.std.specs.Prelude.{ℕ, Bool, false, List, Option, None, is_some, replicate, slice_index_or, slice_set, Float}
 use Rattle.float.specs.Numbers.{f0}
-use Rattle.limits.specs.declared.reading.Reading.{Reading}
-use Rattle.limits.specs.declared.reading.Reading.TheVariants.{Missing}
+use Rattle.limits.specs.Readings.{Reading}
 use Rattle.ladder.specs.declared.types.Table.{Table}
 use Rattle.ladder.specs.Types.{rung_at, place}
 pub use Rattle.account.specs.declared.types.Account.{Account}
-pub use Rattle.account.specs.declared.types.Trying.{Trying}
-pub use Rattle.account.specs.declared.types.Trying.TheVariants.{Nothing, Running}
-pub use Rattle.account.specs.declared.types.Mark.{Mark}
-pub use Rattle.account.specs.declared.types.Mark.TheVariants.{Nowhere, On}
+pub use Rattle.account.specs.declared.types.Try.{Try}
 pub use Rattle.account.specs.declared.types.Families.{Families}
-pub use Rattle.account.specs.declared.types.Families.TheVariants.{Unset, Set}
 pub use Rattle.account.specs.declared.types.Tariff.{Tariff}
 pub use Rattle.account.specs.declared.types.Prices.{Prices}
 pub use Rattle.account.specs.declared.types.Offsets.{Offsets}
@@ -24,9 +18,8 @@ abbrev pub no_account : Account
 no_account = record { bytes = f0; air = f0; frames = f0 }
 
 -- whether a try runs
-abbrev pub runs : Trying → Bool
-runs Nothing = false
-runs (Running r calls frames) = true
+abbrev pub runs : Option Try → Bool
+runs = is_some
 
 -- ---- reading
 -- a rung's account; "for a rung outside the table `account` is zero"
@@ -45,7 +38,7 @@ abbrev pub choice : Table → State → ℕ
 choice t s = rung_at t s.core.place.0
 
 -- ---- changing one field, of what is no array
-abbrev pub core_with_trying : Core → Trying → Core
+abbrev pub core_with_trying : Core → Option Try → Core
 core_with_trying c y = record c { trying = y }
 
 abbrev pub core_with_snr : Core → Reading → Core
@@ -73,7 +66,7 @@ with_time s r x = with_since s (slice_set s.since r x)
 abbrev pub with_wait : State → ℕ → ℕ → State
 with_wait s r w = with_waits s (slice_set s.wait r w)
 
-abbrev pub with_trying : State → Trying → State
+abbrev pub with_trying : State → Option Try → State
 with_trying s y = with_core s (core_with_trying s.core y)
 
 abbrev pub with_snr : State → Reading → State
@@ -88,13 +81,13 @@ with_place s i = with_core s (core_with_place s.core i)
 -- ---- fresh
 abbrev pub fresh_core : Core
 fresh_core = record {
-  trying = Nothing;
-  snr = Missing;
-  echo = Missing;
+  trying = None;
+  snr = None;
+  echo = None;
   place = place 0;
   offsets = record { floor = f0; ofdm = f0 };
   failed = false;
-  clean = Nowhere;
+  clean = None;
 }
 
 -- "`None` accounts, times and waits: zero account, 0.0, 6."
@@ -102,4 +95,4 @@ abbrev pub fresh_state : State
 fresh_state = record { accounts = replicate 32 no_account; since = replicate 32 f0; wait = replicate 32 6; core = fresh_core }
 
 abbrev pub unpriced : Prices
-unpriced = record { tariff = record { given = false; floor = f0; ordinary = f0; gap = f0; bursts = replicate 32 0; counted = 0 }; families = Unset }
+unpriced = record { tariff = None; families = None }

@@ -1,6 +1,6 @@
 // What a rung is rated by, of a table, the prices set and a state that are lent.
 ghost use Rattle.std.specs.Prelude.{◌≡◌};
-ghost use Rattle.account.specs.Price.{offset, chance, prior, estimate, lossless, control, burst_or, overhead, priced, value, lossless_price, full_air, wait_seconds};
+ghost use Rattle.account.specs.Price.{offset, chance, prior, estimate, lossless, burst, control, overhead_of, priced, value, lossless_price, full_air, wait_seconds};
 
 use crate::types::{Families, Prices, State, Tariff};
 use ladder::types::{Rung, Table};
@@ -37,8 +37,8 @@ fn prior(t: &Table, r: Rung, off: f64, snr: Reading) -> f64
     ensures { result ≡ prior t.now r.0 off snr }
 {
     match snr {
-        Reading::Missing => 0.0,
-        Reading::Value(x) => t.row(r).capacity as f64 * chance(t, r, off, x),
+        None => 0.0,
+        Some(x) => t.row(r).capacity as f64 * chance(t, r, off, x),
     }
 }
 
@@ -63,18 +63,14 @@ pub fn lossless(t: &Table, r: Rung) -> f64
 
 // ---- price
 impl Tariff {
-    // A rung's burst count, d where it is absent.
-    fn burst_or(&self, r: Rung, d: u32) -> u32
-        ensures { result ≡ burst_or self.now r.0 d }
+    // A rung's burst count, if it is given.
+    fn burst(&self, r: Rung) -> Option<u32>
+        ensures { result ≡ burst self.now r.0 }
     {
         if r.0 >= self.counted {
-            return d;
+            return None;
         }
-        if r.0 < 32 {
-            self.bursts[r.0 as usize]
-        } else {
-            0
-        }
+        Some(self.bursts.get(r.0 as usize).copied().unwrap_or(0))
     }
 
     // A control frame's length, on the floor or not.
@@ -83,30 +79,33 @@ impl Tariff {
     {
         if floor { self.floor } else { self.ordinary }
     }
+
+    // What an exchange takes beside its data frames, of a rung that is floor or not.
+    fn overhead(&self, families: Option<Families>, floor: bool) -> f64
+        ensures { result ≡ overhead_of self.now families floor }
+    {
+        let set = families.unwrap_or(Families {
+            own_floor: floor,
+            other_floor: floor,
+        });
+        self.control(set.own_floor) + self.control(set.other_floor) + self.gap
+    }
 }
 
-// What an exchange takes beside its data frames.
-fn overhead(t: &Table, p: &Prices, r: Rung) -> f64
-    ensures { result ≡ overhead t.now p.now r.0 }
-{
-    let (own, other) = match p.families {
-        Families::Unset => (t.is_floor(r), t.is_floor(r)),
-        Families::Set(own, other) => (own, other),
-    };
-    p.tariff.control(own) + p.tariff.control(other) + p.tariff.gap
-}
-
-// A rate per second of air as one per second of a whole exchange; itself where unpriced or the burst count is 0.
+// A rate per second of air as one per second of a whole exchange; itself where unpriced or the burst count is 0 or absent.
 #[tactic(auto, unfolding(crate::specs::Price::priced))]
 fn priced(t: &Table, p: &Prices, r: Rung, x: f64) -> f64
     ensures { result ≡ priced t.now p.now r.0 x }
 {
-    let n = p.tariff.burst_or(r, 0);
-    if !p.tariff.given || n == 0 {
+    let Some(tariff) = &p.tariff else {
+        return x;
+    };
+    let n = tariff.burst(r).unwrap_or(0);
+    if n == 0 {
         return x;
     }
     let a = n as f64 * t.row(r).time;
-    x * a / (a + overhead(t, p, r))
+    x * a / (a + tariff.overhead(p.families, t.is_floor(r)))
 }
 
 // ---- value
@@ -129,16 +128,20 @@ pub fn lossless_price(t: &Table, p: &Prices, r: Rung) -> f64
 // ---- air and wait
 // The air of a full transmission at a rung: one frame where its burst count is absent.
 #[tactic(auto, unfolding(crate::specs::Price::full_air))]
-fn full_air(t: &Table, p: &Tariff, r: Rung) -> f64
-    ensures { result ≡ full_air t.now p.now r.0 }
+fn full_air(t: &Table, p: &Prices, r: Rung) -> f64
+    ensures { result ≡ full_air t.now p.now.tariff r.0 }
 {
-    p.burst_or(r, 1) as f64 * t.row(r).time
+    let given = match &p.tariff {
+        Some(tariff) => tariff.burst(r),
+        None => None,
+    };
+    given.unwrap_or(1) as f64 * t.row(r).time
 }
 
 // A rung's wait in seconds: so many full transmissions.
 #[tactic(auto, unfolding(crate::specs::Price::wait_seconds))]
-pub fn wait_seconds(t: &Table, p: &Tariff, s: &State, r: Rung) -> f64
-    ensures { result ≡ wait_seconds t.now p.now s.now r.0 }
+pub fn wait_seconds(t: &Table, p: &Prices, s: &State, r: Rung) -> f64
+    ensures { result ≡ wait_seconds t.now p.now.tariff s.now r.0 }
 {
     s.wait(r) as f64 * full_air(t, p, r)
 }
