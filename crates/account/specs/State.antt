@@ -1,8 +1,9 @@
 -- What a controller holds beside its table: how it is read, changed and fresh. Each field that a step changes has its `with`. Definitions only.
-use Rattle.std.specs.Prelude.{ℕ, Bool, false, List, Option, None, is_some, replicate, slice_index_or, slice_set, Float}
+use Rattle.std.specs.Prelude.{ℕ, Bool, false, List, Option, None, Some, is_some, replicate, slice_index_or, slice_set, Float}
 use Rattle.float.specs.Numbers.{f0}
 use Rattle.limits.specs.Readings.{Reading}
 use Rattle.ladder.specs.declared.types.Table.{Table}
+use Rattle.ladder.specs.declared.types.Rung.{Rung}
 use Rattle.ladder.specs.Types.{rung_at, place}
 pub use Rattle.account.specs.declared.types.Account.{Account}
 pub use Rattle.account.specs.declared.types.Try.{Try}
@@ -17,8 +18,19 @@ pub use Rattle.account.specs.declared.types.State.{State}
 abbrev pub no_account : Account
 no_account = record { bytes = f0; air = f0; frames = f0 }
 
+-- the running try, if one runs: its rung, the calls that it has counted, and its own frames
+abbrev pub Trying : Type 0
+Trying = Option Try
+
+abbrev pub try_of : Rung → ℕ → ℕ → Trying
+try_of r calls frames = Some (record { rung = r; calls = calls; frames = frames })
+
+-- the clean mark, if it is set: its rung
+abbrev pub Mark : Type 0
+Mark = Option Rung
+
 -- whether a try runs
-abbrev pub runs : Option Try → Bool
+abbrev pub runs : Trying → Bool
 runs = is_some
 
 -- ---- reading
@@ -38,7 +50,7 @@ abbrev pub choice : Table → State → ℕ
 choice t s = rung_at t s.core.place.0
 
 -- ---- changing one field, of what is no array
-abbrev pub core_with_trying : Core → Option Try → Core
+abbrev pub core_with_trying : Core → Trying → Core
 core_with_trying c y = record c { trying = y }
 
 abbrev pub core_with_snr : Core → Reading → Core
@@ -66,7 +78,7 @@ with_time s r x = with_since s (slice_set s.since r x)
 abbrev pub with_wait : State → ℕ → ℕ → State
 with_wait s r w = with_waits s (slice_set s.wait r w)
 
-abbrev pub with_trying : State → Option Try → State
+abbrev pub with_trying : State → Trying → State
 with_trying s y = with_core s (core_with_trying s.core y)
 
 abbrev pub with_snr : State → Reading → State

@@ -11,8 +11,8 @@ use lib.Dec.{ltb, eqb}
 use borrow.Author.Tests.{lt-ltb, le-ltb, le-leb, ne_eqb}
 use Rattle.float.specs.Numbers.{f0}
 use Rattle.float.specs.Sum.{total}
-use Rattle.limits.specs.declared.reading.Reading.{Reading}
-use Rattle.limits.specs.declared.reading.Reading.TheVariants.{Missing, Value}
+use Rattle.limits.specs.Readings.{Reading}
+use Rattle.std.specs.Prelude.{None, Some}
 use Rattle.ladder.specs.declared.types.Rung.{Rung}
 use Rattle.ladder.specs.declared.types.Table.{Table}
 use Rattle.ladder.specs.Lists.{every}
@@ -21,8 +21,8 @@ use Rattle.account.specs.declared.types.Core.{Core}
 use Rattle.account.specs.declared.types.Offsets.{Offsets}
 use Rattle.account.specs.declared.types.Prices.{Prices}
 use Rattle.account.specs.declared.types.State.{State}
-use Rattle.account.specs.declared.types.Trying.{Trying}
-use Rattle.account.specs.declared.types.Trying.TheVariants.{Nothing, Running}
+use Rattle.account.specs.State.{Trying}
+use Rattle.account.specs.State.{try_of}
 use Rattle.account.specs.State.{wait_of, with_time, with_wait}
 use Rattle.rules.specs.Lists.{some_of, how_many}
 use Rattle.rules.specs.Echo.{observe_snr}
@@ -35,13 +35,13 @@ use Rattle.rules.proofs.Set.{adds, none_in, judge_frames}
 
 -- ---- the parts
 offsets_none : (t : Table) (snr : Reading) (o : Offsets) → offsets_at t snr [] o ≡ o
-offsets_none t Missing o = refl
-offsets_none t (Value snr) o = refl
+offsets_none t None o = refl
+offsets_none t (Some snr) o = refl
 
 offsets_step : (t : Table) (snr : Reading) (f : Frame) (fs : List Frame) (o : Offsets)
     → offsets_at t snr fs (offsets_by t snr f o) ≡ offsets_at t snr (f ∷ fs) o
-offsets_step t Missing f fs o = refl
-offsets_step t (Value snr) f fs o = refl
+offsets_step t None f fs o = refl
+offsets_step t (Some snr) f fs o = refl
 
 -- the set of the rungs sent, and the count of a try's own frames, up to 3
 abbrev rungs_from : ℕ → List Frame → ℕ
@@ -154,17 +154,17 @@ pub rungs_sent : (t : Table) (s : State) (fs : List Frame) (r : ℕ) → r < 32 
 rungs_sent t s fs r h = rw (gathers t s.core (begin_pass s.core) fs) (rungs_from_lem 0 fs r h ∙ rw (none_in r) (or-false (sent fs r)))
 
 -- ---- the try's own frames, counted up to 3
-counts_none : (n : ℕ) (fs : List Frame) → count_from Nothing n fs ≡ n
+counts_none : (n : ℕ) (fs : List Frame) → count_from None n fs ≡ n
 counts_none n [] = refl
 counts_none n (f ∷ fs) = counts_none n fs
 
-counts : (r : Rung) (calls frames n : ℕ) (fs : List Frame) → n ≤ 3 → count_from (Running r calls frames) n fs ≡ min 3 (n + how_many (at r.0) fs)
+counts : (r : Rung) (calls frames n : ℕ) (fs : List Frame) → n ≤ 3 → count_from (try_of r calls frames) n fs ≡ min 3 (n + how_many (at r.0) fs)
 counts r calls frames n [] h = omega arith
 counts r calls frames n (f ∷ fs) h = go (at r.0 f) (λ k l. counts r calls frames k fs l)
   where
     go : (b : Bool)
-        → ((k : ℕ) → k ≤ 3 → count_from (Running r calls frames) k fs ≡ min 3 (k + how_many (at r.0) fs))
-        → count_from (Running r calls frames) (cond b (cond (ltb n 3) (suc n) n) n) fs ≡ min 3 (n + cond b (suc (how_many (at r.0) fs)) (how_many (at r.0) fs))
+        → ((k : ℕ) → k ≤ 3 → count_from (try_of r calls frames) k fs ≡ min 3 (k + how_many (at r.0) fs))
+        → count_from (try_of r calls frames) (cond b (cond (ltb n 3) (suc n) n) n) fs ≡ min 3 (n + cond b (suc (how_many (at r.0) fs)) (how_many (at r.0) fs))
     go true more =
         elim (dec_lt n 3) [
           | yes l ↦ rw (lt-ltb n 3 l) (more (suc n) l ∙ omega arith)
@@ -173,8 +173,8 @@ counts r calls frames n (f ∷ fs) h = go (at r.0 f) (λ k l. counts r calls fra
     go false more = more n h
 
 own_from : (y : Trying) (fs : List Frame) → count_from y 0 fs ≡ min 3 (own_frames fs y)
-own_from Nothing fs = counts_none 0 fs
-own_from (Running r calls frames) fs = counts r calls frames 0 fs (omega arith) ∙ ap (min 3) (zero-add (how_many (at r.0) fs))
+own_from None fs = counts_none 0 fs
+own_from (Some y) fs = counts y.rung y.calls y.frames 0 fs (omega arith) ∙ ap (min 3) (zero-add (how_many (at y.rung.0) fs))
 
 pub own_counted : (t : Table) (s : State) (fs : List Frame) → (pass_all t s.core (begin_pass s.core) fs).own ≡ min 3 (own_frames fs s.core.trying)
 own_counted t s fs = rw (gathers t s.core (begin_pass s.core) fs) (own_from s.core.trying fs)
@@ -182,14 +182,14 @@ own_counted t s fs = rw (gathers t s.core (begin_pass s.core) fs) (own_from s.co
 -- which is all that the end of a try asks of the count
 pub counted_to_3 : (t : Table) (p : Prices) (n : ℕ) (s : State) (y : Trying) → counted t p (min 3 n) s y ≡ counted t p n s y
 unfolding counted end_try
-counted_to_3 t p n s Nothing = refl
-counted_to_3 t p n s (Running r calls frames) =
+counted_to_3 t p n s None = refl
+counted_to_3 t p n s (Some y) =
     elim (dec_lt n 3) [
       | yes l ↦ let q : min 3 n ≡ n = omega arith in rw q refl
       | no l ↦
           let q : min 3 n ≡ 3 = omega arith in
-          let g : 3 ≤ frames + n = omega arith in
-          rw (q, le-leb 3 (frames + 3) (omega arith), le-leb 3 (frames + n) g, ne_eqb (frames + 3) 0 (λ e. omega arith), ne_eqb (frames + n) 0 (λ e. omega arith)) refl
+          let g : 3 ≤ y.frames + n = omega arith in
+          rw (q, le-leb 3 (y.frames + 3) (omega arith), le-leb 3 (y.frames + n) g, ne_eqb (y.frames + 3) 0 (λ e. omega arith), ne_eqb (y.frames + n) 0 (λ e. omega arith)) refl
     ]
 
 -- ---- after the pass: judging the set of rungs sent, and counting the try, is judging and counting by the frames

@@ -13,18 +13,18 @@ use lib.Seq.{get_or-set_other, get_or-set_same}
 use lib.Ieee.{Float, lt}
 use lib.Ieee.Fits.{and_l, and_i}
 use Rattle.float.specs.Numbers.{◌⊕◌, f0}
-use Rattle.limits.specs.declared.reading.Reading.{Reading}
+use Rattle.limits.specs.Readings.{Reading}
 use Rattle.ladder.specs.declared.types.Table.{Table}
 use Rattle.ladder.specs.Types.{rung_at, places_of}
 use Rattle.ladder.proofs.Cases.{pick, pick_by, yes_of, of_no, or_here, or_left, and_rest}
 use Rattle.ladder.proofs.TableSound.{TableSound}
-use Rattle.account.specs.declared.types.Trying.{Trying}
-use Rattle.account.specs.declared.types.Trying.TheVariants.{Nothing, Running}
+use Rattle.account.specs.State.{Trying}
+use Rattle.std.specs.Prelude.{None, Some}
 use Rattle.account.specs.declared.types.Prices.{Prices}
 use Rattle.account.specs.declared.types.State.{State}
 use Rattle.account.specs.State.{time_of, wait_of, choice, with_place}
 use Rattle.account.specs.Price.{estimate_at, value, lossless_price, wait_seconds}
-use Rattle.rules.specs.Lowest.{Best, NoneYet, Found}
+use Rattle.rules.specs.Lowest.{Best}
 use Rattle.rules.specs.Echo.{out, usable, observe_snr}
 use Rattle.rules.specs.Booking.{Frame, sent, call_air, passed, booked}
 use Rattle.rules.specs.Tries.{better, judge_try, to_judge, judge_sent, judge_above, tries, own_frames, counted, candidate, choose, due, clean_climb, begins, begin, still, decide_try, decide_at, decide}
@@ -102,20 +102,20 @@ pub record Given (u : ℕ) (a : Float) (s z : State) : Type 0 where
   pub time : time_of z u ≡ time_of s u ⊕ a
   pub wait : wait_of z u ≡ wait_of s u
   pub place : z.core.place.0 ≡ s.core.place.0
-  pub trying : z.core.trying ≡ Nothing
+  pub trying : z.core.trying ≡ None
 
-counted_nothing : (t : Table) (p : Prices) (n : ℕ) (s : State) (y : Trying) → y ≡ Nothing → counted t p n s y ≡ s
+counted_nothing : (t : Table) (p : Prices) (n : ℕ) (s : State) (y : Trying) → y ≡ None → counted t p n s y ≡ s
 unfolding counted
 counted_nothing t p n s y e = ap (counted t p n s) e
 
-pub inside_given : (t : Table) → TableSound t → (p : Prices) (s : State) (fs : List Frame) (snr : Reading) (j : ℕ) → j < places_of t → rung_at t j < length s.since → s.core.trying ≡ Nothing
+pub inside_given : (t : Table) → TableSound t → (p : Prices) (s : State) (fs : List Frame) (snr : Reading) (j : ℕ) → j < places_of t → rung_at t j < length s.since → s.core.trying ≡ None
     → T (not (sent fs (rung_at t j))) → Given (rung_at t j) (call_air fs) s (inside t p s fs snr)
 unfolding inside booked
 inside_given t ts p s fs snr j h k e n =
     let u = rung_at t j in
     let b = judged t p (observe_snr s snr) fs in
     let a = above_apart 32 0 t p fs (booked t (observe_snr s snr) fs) u n in
-    let y : b.core.trying ≡ Nothing = judged_keeps_try t p (observe_snr s snr) fs ∙ e in
+    let y : b.core.trying ≡ None = judged_keeps_try t p (observe_snr s snr) fs ∙ e in
     subst (λ (z : State). Given u (call_air fs) s z) (sym (counted_nothing t p (own_frames fs b.core.trying) b b.core.trying y))
     (record {
       time = a.time ∙ passed_time t ts (call_air fs) j h (places_of t) 0 s.since (omega arith) (omega arith) (omega arith) k;
@@ -132,7 +132,7 @@ value_place t p q j r = refl
 -- what it leaves in a run, of the choice i
 pub record Stays (t : Table) (i : ℕ) (z : State) : Type 0 where
   pub place : z.core.place.0 ≡ i
-  pub no_try : z.core.trying ≡ Nothing
+  pub no_try : z.core.trying ≡ None
   pub choice_allowed : T (usable t z i)
   pub above_allowed : T (usable t z (suc i))
 
@@ -142,10 +142,10 @@ pub record Waits (t : Table) (p : Prices) (i : ℕ) (q z : State) : Type 0 where
   pub wait : z.wait ≡ q.wait
   pub not_due : due t p q (rung_at t (suc i)) ≡ false
 
-module _ (t : Table) (p : Prices) (i : ℕ) (q : State) (here : q.core.place.0 ≡ i) (idle : q.core.trying ≡ Nothing)
+module _ (t : Table) (p : Prices) (i : ℕ) (q : State) (here : q.core.place.0 ≡ i) (idle : q.core.trying ≡ None)
     (beaten : T (lt (value t p q (rung_at t i)) (lossless_price t p (rung_at t (suc i))))) where
   -- the choice itself is a candidate, so one is found
-  never_none : T (usable t q i) → choose t p q ≢ NoneYet
+  never_none : T (usable t q i) → choose t p q ≢ None
   unfolding choose
   never_none h =
       finds (places_of t) 0 (candidate t q) (λ (j : ℕ). value t p q (rung_at t j)) i (omega arith)
@@ -174,10 +174,10 @@ module _ (t : Table) (p : Prices) (i : ℕ) (q : State) (here : q.core.place.0 �
       begun j true e h = let n = h.no_try in let z : ◌≡◌ {A = ℕ} 0 1 = cc in absurd (omega arith)
       begun j false e h = record { since = refl; wait = refl; not_due = short j h.place h.above_allowed e }
 
-      tried : (j : ℕ) (y : Trying) → y ≡ Nothing → Stays t i (decide_try t p (with_place q j) y).state → Waits t p i q (decide_try t p (with_place q j) y).state
-      tried j Nothing e h = begun j (begins t p (with_place q j)) refl h
-      tried j (Running r calls frames) e h = let z : ◌≡◌ {A = ℕ} 0 1 = cc in absurd (omega arith)
+      tried : (j : ℕ) (y : Trying) → y ≡ None → Stays t i (decide_try t p (with_place q j) y).state → Waits t p i q (decide_try t p (with_place q j) y).state
+      tried j None e h = begun j (begins t p (with_place q j)) refl h
+      tried j (Some y) e h = let z : ◌≡◌ {A = ℕ} 0 1 = cc in absurd (omega arith)
 
       go : (b : Best) → choose t p q ≡ b → Stays t i (decide_at t p q b).state → Waits t p i q (decide_at t p q b).state
-      go NoneYet e h = absurd (never_none h.choice_allowed e)
-      go (Found j x) e h = tried j.0 q.core.trying idle h
+      go None e h = absurd (never_none h.choice_allowed e)
+      go (Some b) e h = tried b.place.0 q.core.trying idle h

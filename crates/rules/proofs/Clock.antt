@@ -10,21 +10,20 @@ use lib.Ieee.{Float, binary64, of_bits, neg, le, lt}
 use lib.Ieee.Fits.{and_l}
 use Rattle.float.specs.Numbers.{f64, ◌⊕◌, f0}
 use Rattle.float.proofs.Monotone.{natural, add_natural}
-use Rattle.limits.specs.declared.reading.Reading.{Reading}
-use Rattle.limits.specs.declared.reading.Reading.TheVariants.{Missing, Value}
+use Rattle.limits.specs.Readings.{Reading}
+use Rattle.std.specs.Prelude.{None, Some}
 use Rattle.ladder.specs.declared.types.Table.{Table}
 use Rattle.ladder.specs.Types.{rung_at, rungs_of, places_of}
 use Rattle.ladder.proofs.Cases.{pick, pick_by, yes_of}
 use Rattle.ladder.proofs.Entries.{All, all_get, all_set}
 use Rattle.ladder.proofs.TableSound.{TableSound}
-use Rattle.account.specs.declared.types.Trying.{Trying}
-use Rattle.account.specs.declared.types.Trying.TheVariants.{Nothing, Running}
+use Rattle.account.specs.State.{Trying}
 use Rattle.account.specs.declared.types.Prices.{Prices}
 use Rattle.account.specs.declared.types.State.{State}
 use Rattle.account.specs.State.{time_of, wait_of, choice, with_time, with_wait, with_trying, with_place, with_echo}
 use Rattle.account.specs.Price.{wait_seconds}
 use Rattle.account.proofs.FullAir.{TariffSound, IsWait, seconds_natural}
-use Rattle.rules.specs.Lowest.{Best, NoneYet, Found}
+use Rattle.rules.specs.Lowest.{Best}
 use Rattle.rules.specs.Echo.{out, usable, end_if_out, echoed, smooth_echo, observe_echo, seed, seed_at, observe_snr}
 use Rattle.rules.specs.Booking.{Frame, call_air, passed, booked}
 use Rattle.rules.specs.Tries.{better, judge_try, to_judge, judge_sent, judge_above, place_from, full_wait, won, end_try, own_frames, counted, Decided, begins, above, decide_try, decide_at, decide, choose}
@@ -130,9 +129,9 @@ module _ (t : Table) (p : Prices) (ts : TableSound t) (ps : TariffSound p.tariff
 
   counted_ticks : (n : ℕ) (s : State) (y : Trying) → Ticks s → Ticks (counted t p n s y)
   unfolding counted
-  counted_ticks n s Nothing h = h
-  counted_ticks n s (Running r calls frames) h =
-      pick Ticks (leb 3 (frames + n) || leb 6 (suc calls)) (end_ticks (with_trying s Nothing) r.0 (frames + n) h) h
+  counted_ticks n s None h = h
+  counted_ticks n s (Some y) h =
+      pick Ticks (leb 3 (y.frames + n) || leb 6 (suc y.calls)) (end_ticks (with_trying s None) y.rung.0 (y.frames + n) h) h
 
   pub inside_ticks : (s : State) (fs : List Frame) (snr : Reading) → natural (call_air fs) → Ticks s → Ticks (inside t p s fs snr)
   unfolding inside
@@ -145,12 +144,12 @@ module _ (t : Table) (p : Prices) (ts : TableSound t) (ps : TariffSound p.tariff
   decide_ticks s h = go (choose t p s)
     where
       decided : (m : State) (y : Trying) → Ticks m → Ticks (decide_try t p m y).state
-      decided m Nothing k = pick (λ (d : Decided). Ticks d.state) (begins t p m) (set_time m (above t m) f0 k zero_natural) k
-      decided m (Running r calls frames) k = pick Ticks (usable t m (suc m.core.place.0) && eqb (above t m) r.0) k k
+      decided m None k = pick (λ (d : Decided). Ticks d.state) (begins t p m) (set_time m (above t m) f0 k zero_natural) k
+      decided m (Some y) k = pick Ticks (usable t m (suc m.core.place.0) && eqb (above t m) y.rung.0) k k
 
       go : (b : Best) → Ticks (decide_at t p s b).state
-      go NoneYet = h
-      go (Found i x) = decided (with_place s i.0) s.core.trying h
+      go None = h
+      go (Some b) = decided (with_place s b.place.0) s.core.trying h
 
   pub frames_ticks : (s : State) (fs : List Frame) (snr : Reading) → natural (call_air fs) → Ticks s → Ticks (observe_frames t p s fs snr).state
   unfolding observe_frames
@@ -163,12 +162,12 @@ Untimed s z = (z.since ≡ s.since) × (z.wait ≡ s.wait)
 
 pub echo_untimed : (t : Table) (p : Prices) (s : State) (share : Reading) (snr : Float) → Untimed s (observe_echo t p s share snr)
 unfolding observe_echo
-echo_untimed t p s Missing snr = (refl, refl)
-echo_untimed t p s (Value x) snr = pick (Untimed s) (lt snr (neg (f64 0x4018_0000_0000_0000))) (refl, refl) (heard (with_echo s (smooth_echo s.core.echo x)) (refl, refl))
+echo_untimed t p s None snr = (refl, refl)
+echo_untimed t p s (Some x) snr = pick (Untimed s) (lt snr (neg (f64 0x4018_0000_0000_0000))) (refl, refl) (heard (with_echo s (smooth_echo s.core.echo x)) (refl, refl))
   where
     off : (m : State) (y : Trying) → Untimed s m → Untimed s (end_if_out t m y)
-    off m Nothing h = h
-    off m (Running r calls frames) h = pick (Untimed s) (out t m r.0) h h
+    off m None h = h
+    off m (Some y) h = pick (Untimed s) (out t m y.rung.0) h h
 
     heard : (m : State) → Untimed s m → Untimed s (echoed t p m)
     heard m h = let z = end_if_out t m m.core.trying in let k = off m m.core.trying h in pick (Untimed s) (out t z (choice t z)) k k
@@ -178,5 +177,5 @@ unfolding seed
 seed_untimed t p s snr = go s.core.snr
   where
     go : (x : Reading) → Untimed s (seed_at t p s snr x)
-    go Missing = (refl, refl)
-    go (Value y) = (refl, refl)
+    go None = (refl, refl)
+    go (Some y) = (refl, refl)

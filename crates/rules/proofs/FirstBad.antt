@@ -8,8 +8,8 @@ use native.Mathlib.Decide.{dec_lt}
 use lib.ListN.{length}
 use borrow.Author.Tests.{lt-ltb, le-ltb}
 use Rattle.limits.specs.Refusals.{or_else}
-use Rattle.limits.specs.declared.refusal.Verdict.{Verdict}
-use Rattle.limits.specs.declared.refusal.Verdict.TheVariants.{Accepted, Refused}
+use Rattle.limits.specs.Refusals.{Verdict}
+use Rattle.std.specs.Prelude.{Ok, Err}
 use Rattle.ladder.specs.declared.types.Table.{Table}
 use Rattle.ladder.specs.Types.{rungs_of}
 use Rattle.rules.specs.Booking.{Frame}
@@ -17,12 +17,12 @@ use Rattle.rules.specs.Check.{frame_verdict, first_bad}
 use Rattle.rules.specs.bridges.Check.{Check, frame_in, count_up, begin_check, check_step, check_all}
 
 or_else_assoc : (a b c : Verdict) → or_else (or_else a b) c ≡ or_else a (or_else b c)
-or_else_assoc Accepted b c = refl
-or_else_assoc (Refused why) b c = refl
+or_else_assoc (Ok _) b c = refl
+or_else_assoc (Err why) b c = refl
 
-or_else_accepted : (a : Verdict) → or_else a Accepted ≡ a
-or_else_accepted Accepted = refl
-or_else_accepted (Refused why) = refl
+or_else_accepted : (a : Verdict) → or_else a (Ok tt) ≡ a
+or_else_accepted (Ok _) = refl
+or_else_accepted (Err why) = refl
 
 verdict_from : (t : Table) (fs : List Frame) (c : Check) → c.rungs ≡ rungs_of t → (check_all c fs).verdict ≡ or_else c.verdict (first_bad t fs)
 unfolding check_step frame_in

@@ -14,7 +14,8 @@ use Rattle.account.specs.declared.types.Prices.{Prices}
 use Rattle.account.specs.declared.types.State.{State}
 use Rattle.account.specs.Price.{value}
 use Rattle.ladder.proofs.Cases.{pick}
-use Rattle.rules.specs.Lowest.{Best, NoneYet, Found, beats, greatest, improved}
+use Rattle.std.specs.Prelude.{None, Some}
+use Rattle.rules.specs.Lowest.{Best, found, beats, greatest, improved}
 
 -- the value of the rung at a place
 abbrev pub worth : Table → Prices → State → ℕ → Float
@@ -37,8 +38,8 @@ module _ (A : ℕ → Bool) (W : ℕ → Float) where
 
   -- what is found has the value of its place
   abbrev pub Valued : Best → Type 0
-  Valued NoneYet = Unit
-  Valued (Found j x) = x ≡ W j.0
+  Valued None = Unit
+  Valued (Some b) = b.value ≡ W b.place.0
 
   pub keeps : (n i : ℕ) (b : Best) → Valued b → Valued (greatest n i A W b)
   unfolding greatest
@@ -50,7 +51,7 @@ module _ (A : ℕ → Bool) (W : ℕ → Float) where
     unfolding greatest
     idle zero i b h = refl
     idle (suc n) i b h =
-        ap (greatest n (suc i) A W) (ap (λ (u : Bool). cond (u && beats (W i) b) (Found (place i) (W i)) b) (far i h)) ∙ idle n (suc i) b (omega arith)
+        ap (greatest n (suc i) A W) (ap (λ (u : Bool). cond (u && beats (W i) b) (found (place i) (W i)) b) (far i h)) ∙ idle n (suc i) b (omega arith)
 
     pub capped : (n i : ℕ) (b : Best) → greatest (min (32 - i) n) i A W b ≡ greatest n i A W b
     unfolding greatest

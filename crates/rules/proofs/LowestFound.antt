@@ -13,21 +13,22 @@ use Rattle.float.proofs.Order.{number, le_lt, not_lt, lt_le, lt→LT}
 use Rattle.ladder.specs.declared.types.Place.{Place}
 use Rattle.ladder.specs.Types.{place}
 use Rattle.ladder.proofs.Cases.{pick, pick_by, yes_of}
-use Rattle.rules.specs.Lowest.{Best, NoneYet, Found, Lowest, BestOf, beats, improved, greatest}
+use Rattle.std.specs.Prelude.{None, Some}
+use Rattle.rules.specs.Lowest.{Best, found, Lowest, BestOf, beats, improved, greatest}
 
 -- ---- one is found where one is allowed
-found_stays : (n i : ℕ) (allowed : ℕ → Bool) (worth : ℕ → Float) (j : Place) (x : Float) → greatest n i allowed worth (Found j x) ≢ NoneYet
+found_stays : (n i : ℕ) (allowed : ℕ → Bool) (worth : ℕ → Float) (j : Place) (x : Float) → greatest n i allowed worth (found j x) ≢ None
 unfolding greatest
-found_stays zero i allowed worth j x = λ (e : Found j x ≡ NoneYet). let z : ◌≡◌ {A = ℕ} 0 1 = cc in absurd (omega arith)
+found_stays zero i allowed worth j x = λ (e : found j x ≡ None). let z : ◌≡◌ {A = ℕ} 0 1 = cc in absurd (omega arith)
 found_stays (suc n) i allowed worth j x =
-    pick (λ (b : Best). greatest n (suc i) allowed worth b ≢ NoneYet) (allowed i && beats (worth i) (Found j x))
+    pick (λ (b : Best). greatest n (suc i) allowed worth b ≢ None) (allowed i && beats (worth i) (found j x))
     (found_stays n (suc i) allowed worth (place i) (worth i)) (found_stays n (suc i) allowed worth j x)
 
-pub finds : (n i : ℕ) (allowed : ℕ → Bool) (worth : ℕ → Float) (j : ℕ) → i ≤ j → j < i + n → T (allowed j) → greatest n i allowed worth NoneYet ≢ NoneYet
+pub finds : (n i : ℕ) (allowed : ℕ → Bool) (worth : ℕ → Float) (j : ℕ) → i ≤ j → j < i + n → T (allowed j) → greatest n i allowed worth None ≢ None
 unfolding greatest
 finds zero i allowed worth j h k a = absurd (omega arith)
 finds (suc n) i allowed worth j h k a =
-    pick_by (λ (b : Best). greatest n (suc i) allowed worth b ≢ NoneYet) (allowed i && true)
+    pick_by (λ (b : Best). greatest n (suc i) allowed worth b ≢ None) (allowed i && true)
     (λ e. found_stays n (suc i) allowed worth (place i) (worth i))
     (λ e. finds n (suc i) allowed worth j (later e (eq-or-lt_of_le h)) (omega arith) a)
   where
@@ -57,9 +58,9 @@ with_last P m h k j l = go (eq-or-lt_of_le (le_of_suc-le-suc l))
 module _ (allowed : ℕ → Bool) (worth : ℕ → Float) (numbers : (j : ℕ) → T (allowed j) → T (number (worth j))) where
   -- one place more
   grown : (m : ℕ) (b : Best) → BestOf allowed worth m b → BestOf allowed worth (suc m) (improved allowed worth m b)
-  grown m NoneYet h = go (allowed m) refl
+  grown m None h = go (allowed m) refl
     where
-      go : (a : Bool) → allowed m ≡ a → BestOf allowed worth (suc m) (cond (a && true) (Found (place m) (worth m)) NoneYet)
+      go : (a : Bool) → allowed m ≡ a → BestOf allowed worth (suc m) (cond (a && true) (found (place m) (worth m)) None)
       go true e = record {
         below = omega arith;
         is_allowed = yes_of e;
@@ -69,23 +70,23 @@ module _ (allowed : ℕ → Bool) (worth : ℕ → Float) (numbers : (j : ℕ) �
         lower_less = λ (j : ℕ) (g : j < m) (a : T (allowed j)). absurd (T_not (allowed j) (h j g) a);
       }
       go false e = with_last (λ (j : ℕ). T (not (allowed j))) m h (subst (λ (a : Bool). T (not a)) (sym e) tt)
-  grown m (Found p x) h = go (allowed m) refl (lt x (worth m)) refl
+  grown m (Some f) h = go (allowed m) refl (lt f.value (worth m)) refl
     where
       -- what is below m has less than a greater value at m
-      less : T (lt x (worth m)) → (j : ℕ) → j < m → T (allowed j) → T (lt (worth j) (worth m))
+      less : T (lt f.value (worth m)) → (j : ℕ) → j < m → T (allowed j) → T (lt (worth j) (worth m))
       less k j g a =
-          le_lt (worth j) x (worth m) (not_lt x (worth j) (subst (λ (y : Float). T (number y)) (sym h.value) (numbers p.0 h.is_allowed)) (numbers j a) (h.none_greater j g a)) k
+          le_lt (worth j) f.value (worth m) (not_lt f.value (worth j) (subst (λ (y : Float). T (number y)) (sym h.value) (numbers f.place.0 h.is_allowed)) (numbers j a) (h.none_greater j g a)) k
 
-      kept : (T (allowed m) → T (not (lt x (worth m)))) → Lowest allowed worth (suc m) p.0 x
+      kept : (T (allowed m) → T (not (lt f.value (worth m)))) → Lowest allowed worth (suc m) f.place.0 f.value
       kept k = record {
         below = omega (arith, h.below);
         is_allowed = h.is_allowed;
         value = h.value;
-        none_greater = with_last (λ (j : ℕ). T (allowed j) → T (not (lt x (worth j)))) m h.none_greater k;
+        none_greater = with_last (λ (j : ℕ). T (allowed j) → T (not (lt f.value (worth j)))) m h.none_greater k;
         lower_less = h.lower_less;
       }
 
-      go : (a : Bool) → allowed m ≡ a → (b : Bool) → lt x (worth m) ≡ b → BestOf allowed worth (suc m) (cond (a && b) (Found (place m) (worth m)) (Found p x))
+      go : (a : Bool) → allowed m ≡ a → (b : Bool) → lt f.value (worth m) ≡ b → BestOf allowed worth (suc m) (cond (a && b) (found (place m) (worth m)) (Some f))
       go true e true k = record {
         below = omega arith;
         is_allowed = yes_of e;
@@ -102,5 +103,5 @@ module _ (allowed : ℕ → Bool) (worth : ℕ → Float) (numbers : (j : ℕ) �
   go_on zero m b h = rw (add-zero m) h
   go_on (suc n) m b h = rw (add-suc m n, ← suc-add m n) (go_on n (suc m) (improved allowed worth m b) (grown m b h))
 
-  pub lowest_of_greatest : (n : ℕ) → BestOf allowed worth n (greatest n 0 allowed worth NoneYet)
-  lowest_of_greatest n = subst (λ (m : ℕ). BestOf allowed worth m (greatest n 0 allowed worth NoneYet)) (zero-add n) (go_on n 0 NoneYet (λ (j : ℕ) (g : j < 0). absurd (omega arith)))
+  pub lowest_of_greatest : (n : ℕ) → BestOf allowed worth n (greatest n 0 allowed worth None)
+  lowest_of_greatest n = subst (λ (m : ℕ). BestOf allowed worth m (greatest n 0 allowed worth None)) (zero-add n) (go_on n 0 None (λ (j : ℕ) (g : j < 0). absurd (omega arith)))

@@ -11,17 +11,17 @@ use lib.Dec.{T, leb, eqb}
 use lib.Ieee.{Float, neg, lt}
 use Rattle.float.specs.Numbers.{f64}
 use Rattle.ladder.specs.declared.types.Rung.{Rung}
-use Rattle.limits.specs.declared.reading.Reading.{Reading}
-use Rattle.limits.specs.declared.reading.Reading.TheVariants.{Missing, Value}
+use Rattle.limits.specs.Readings.{Reading}
+use Rattle.std.specs.Prelude.{None, Some}
 use Rattle.ladder.specs.declared.types.Table.{Table}
 use Rattle.ladder.specs.Types.{rung, places_of}
 use Rattle.ladder.proofs.Cases.{pick, pick_by, or_right}
-use Rattle.account.specs.declared.types.Trying.{Trying}
-use Rattle.account.specs.declared.types.Trying.TheVariants.{Nothing, Running}
+use Rattle.account.specs.State.{Trying}
+use Rattle.account.specs.State.{try_of}
 use Rattle.account.specs.declared.types.Prices.{Prices}
 use Rattle.account.specs.declared.types.State.{State}
 use Rattle.account.specs.State.{runs, choice, with_trying, with_place, with_echo}
-use Rattle.rules.specs.Lowest.{Best, NoneYet, Found}
+use Rattle.rules.specs.Lowest.{Best}
 use Rattle.rules.specs.Echo.{out, usable, end_if_out, down_if_out, echoed, smooth_echo, observe_echo, seed, seed_at, observe_snr}
 use Rattle.rules.specs.Booking.{Frame, booked}
 use Rattle.rules.specs.Tries.{Decided, better, judge_try, to_judge, judge_sent, judge_above, place_from, full_wait, won, end_try, own_frames, counted, begins, above, decide_try, decide_at, decide, choose}
@@ -65,57 +65,57 @@ unfolding seed
 seed_keeps_try t p s snr = go s.core.snr
   where
     go : (x : Reading) → (seed_at t p s snr x).core.trying ≡ s.core.trying
-    go Missing = refl
-    go (Value y) = refl
+    go None = refl
+    go (Some y) = refl
 
 -- ---- an echo reading ends the try or leaves it
-pub echo_rests : (t : Table) (p : Prices) (s : State) (share : Reading) (snr : Float) → let z = observe_echo t p s share snr in (z.core.trying ≡ Nothing) ⊎ (z.core.trying ≡ s.core.trying)
+pub echo_rests : (t : Table) (p : Prices) (s : State) (share : Reading) (snr : Float) → let z = observe_echo t p s share snr in (z.core.trying ≡ None) ⊎ (z.core.trying ≡ s.core.trying)
 unfolding observe_echo
-echo_rests t p s Missing snr = inr refl
-echo_rests t p s (Value x) snr =
+echo_rests t p s None snr = inr refl
+echo_rests t p s (Some x) snr =
     pick (λ (z : State). Rests s.core.trying z.core.trying) (lt snr (neg (f64 0x4018_0000_0000_0000))) (inr refl) (heard (with_echo s (smooth_echo s.core.echo x)))
   where
     Rests : Trying → Trying → Type 0
-    Rests y z = (z ≡ Nothing) ⊎ (z ≡ y)
+    Rests y z = (z ≡ None) ⊎ (z ≡ y)
 
     down : (m : State) → (down_if_out t p m).core.trying ≡ m.core.trying
     down m = pick (λ (z : State). z.core.trying ≡ m.core.trying) (out t m (choice t m)) refl refl
 
     off : (m : State) (y : Trying) → m.core.trying ≡ y → Rests y (end_if_out t m y).core.trying
-    off m Nothing e = inr e
-    off m (Running r calls frames) e = pick (λ (z : State). Rests (Running r calls frames) z.core.trying) (out t m r.0) (inl refl) (inr e)
+    off m None e = inr e
+    off m (Some y) e = pick (λ (z : State). Rests (try_of y.rung y.calls y.frames) z.core.trying) (out t m y.rung.0) (inl refl) (inr e)
 
     heard : (m : State) → Rests m.core.trying (echoed t p m).core.trying
     heard m = subst (λ (z : Trying). Rests m.core.trying z) (sym (down (end_if_out t m m.core.trying))) (off m m.core.trying refl)
 
 -- ---- a frame call counts: the try is over, or has so many calls, fewer than six
 abbrev pub Goes : Rung → ℕ → Trying → Type 0
-Goes r calls y = (frames : ℕ) × (y ≡ Running r calls frames) × (calls < 6)
+Goes r calls y = (frames : ℕ) × (y ≡ try_of r calls frames) × (calls < 6)
 
 abbrev Counted : Rung → ℕ → Trying → Type 0
-Counted r calls y = (y ≡ Nothing) ⊎ Goes r calls y
+Counted r calls y = (y ≡ None) ⊎ Goes r calls y
 
-count : (t : Table) (p : Prices) (n : ℕ) (s : State) (r : Rung) (calls frames : ℕ) → Counted r (suc calls) (counted t p n s (Running r calls frames)).core.trying
+count : (t : Table) (p : Prices) (n : ℕ) (s : State) (r : Rung) (calls frames : ℕ) → Counted r (suc calls) (counted t p n s (try_of r calls frames)).core.trying
 unfolding counted
 count t p n s r calls frames =
     pick_by (λ (z : State). Counted r (suc calls) z.core.trying) (leb 3 (frames + n) || leb 6 (suc calls))
-    (λ e. inl (end_keeps_try t p (with_trying s Nothing) r.0 (frames + n)))
+    (λ e. inl (end_keeps_try t p (with_trying s None) r.0 (frames + n)))
     (λ e. inr (frames + n, refl, leb-false 6 (suc calls) (or_right (leb 3 (frames + n)) (leb 6 (suc calls)) e)))
 
 module _ (t : Table) (p : Prices) (s : State) (fs : List Frame) (snr : Reading) where
-  inside_counts : (r : Rung) (calls frames : ℕ) → s.core.trying ≡ Running r calls frames → Counted r (suc calls) (inside t p s fs snr).core.trying
+  inside_counts : (r : Rung) (calls frames : ℕ) → s.core.trying ≡ try_of r calls frames → Counted r (suc calls) (inside t p s fs snr).core.trying
   unfolding inside
   inside_counts r calls frames e =
       let b = judged t p (observe_snr s snr) fs in
       subst (λ (y : Trying). Counted r (suc calls) (counted t p (own_frames fs b.core.trying) b y).core.trying) (sym (judged_keeps_try t p (observe_snr s snr) fs ∙ e))
       (count t p (own_frames fs b.core.trying) b r calls frames)
 
-  inside_nothing : s.core.trying ≡ Nothing → (inside t p s fs snr).core.trying ≡ Nothing
+  inside_nothing : s.core.trying ≡ None → (inside t p s fs snr).core.trying ≡ None
   unfolding inside counted
   inside_nothing e =
       let b = judged t p (observe_snr s snr) fs in
-      let h : b.core.trying ≡ Nothing = judged_keeps_try t p (observe_snr s snr) fs ∙ e in
-      subst (λ (y : Trying). (counted t p (own_frames fs b.core.trying) b y).core.trying ≡ Nothing) (sym h) h
+      let h : b.core.trying ≡ None = judged_keeps_try t p (observe_snr s snr) fs ∙ e in
+      subst (λ (y : Trying). (counted t p (own_frames fs b.core.trying) b y).core.trying ≡ None) (sym h) h
 
 -- ---- and `decide` then
 -- the try that ran before does not run on
@@ -123,54 +123,54 @@ abbrev pub Off : Decided → Type 0
 Off d = T (d.begun || not (runs d.state.core.trying))
 
 module _ (t : Table) (p : Prices) where
-  tried_idle : (s : State) (y : Trying) → s.core.trying ≡ y → y ≡ Nothing → Off (decide_try t p s y)
-  tried_idle s Nothing h e = pick Off (begins t p s) tt (subst (λ (z : Trying). T (false || not (runs z))) (sym h) tt)
-  tried_idle s (Running r calls frames) h e = let z : ◌≡◌ {A = ℕ} 0 1 = cc in absurd (omega arith)
+  tried_idle : (s : State) (y : Trying) → s.core.trying ≡ y → y ≡ None → Off (decide_try t p s y)
+  tried_idle s None h e = pick Off (begins t p s) tt (subst (λ (z : Trying). T (false || not (runs z))) (sym h) tt)
+  tried_idle s (Some y) h e = let z : ◌≡◌ {A = ℕ} 0 1 = cc in absurd (omega arith)
 
   tried_running : (s : State) (y : Trying) → s.core.trying ≡ y → Off (decide_try t p s y) ⊎ ((decide_try t p s y).state.core.trying ≡ y)
-  tried_running s Nothing h = inl (tried_idle s Nothing h refl)
-  tried_running s (Running r calls frames) h = go (usable t s (suc s.core.place.0) && eqb (above t s) r.0)
+  tried_running s None h = inl (tried_idle s None h refl)
+  tried_running s (Some y) h = go (usable t s (suc s.core.place.0) && eqb (above t s) y.rung.0)
     where
-      go : (b : Bool) → let z = cond b s (with_trying s Nothing) in T (false || not (runs z.core.trying)) ⊎ (z.core.trying ≡ Running r calls frames)
+      go : (b : Bool) → let z = cond b s (with_trying s None) in T (false || not (runs z.core.trying)) ⊎ (z.core.trying ≡ try_of y.rung y.calls y.frames)
       go true = inr h
       go false = inl tt
 
-  tried_begun : (s : State) (y : Trying) → T (decide_try t p s y).begun → (r : Rung) × ((decide_try t p s y).state.core.trying ≡ Running r 0 0)
-  tried_begun s Nothing = pick (λ (d : Decided). T d.begun → (r : Rung) × (d.state.core.trying ≡ Running r 0 0)) (begins t p s) (λ h. (rung (above t s), refl)) (λ h. absurd h)
-  tried_begun s (Running r calls frames) = λ h. absurd h
+  tried_begun : (s : State) (y : Trying) → T (decide_try t p s y).begun → (r : Rung) × ((decide_try t p s y).state.core.trying ≡ try_of r 0 0)
+  tried_begun s None = pick (λ (d : Decided). T d.begun → (r : Rung) × (d.state.core.trying ≡ try_of r 0 0)) (begins t p s) (λ h. (rung (above t s), refl)) (λ h. absurd h)
+  tried_begun s (Some y) = λ h. absurd h
 
-  decide_idle : (s : State) → s.core.trying ≡ Nothing → Off (decide t p s)
+  decide_idle : (s : State) → s.core.trying ≡ None → Off (decide t p s)
   unfolding decide
   decide_idle s e = go (choose t p s)
     where
       go : (b : Best) → Off (decide_at t p s b)
-      go NoneYet = tt
-      go (Found i x) = tried_idle (with_place s i.0) s.core.trying refl e
+      go None = tt
+      go (Some b) = tried_idle (with_place s b.place.0) s.core.trying refl e
 
   decide_running : (s : State) → Off (decide t p s) ⊎ ((decide t p s).state.core.trying ≡ s.core.trying)
   unfolding decide
   decide_running s = go (choose t p s)
     where
       go : (b : Best) → Off (decide_at t p s b) ⊎ ((decide_at t p s b).state.core.trying ≡ s.core.trying)
-      go NoneYet = inl tt
-      go (Found i x) = tried_running (with_place s i.0) s.core.trying refl
+      go None = inl tt
+      go (Some b) = tried_running (with_place s b.place.0) s.core.trying refl
 
-  pub decide_begun : (s : State) → T (decide t p s).begun → (r : Rung) × ((decide t p s).state.core.trying ≡ Running r 0 0)
+  pub decide_begun : (s : State) → T (decide t p s).begun → (r : Rung) × ((decide t p s).state.core.trying ≡ try_of r 0 0)
   unfolding decide
   decide_begun s = go (choose t p s)
     where
-      go : (b : Best) → T (decide_at t p s b).begun → (r : Rung) × ((decide_at t p s b).state.core.trying ≡ Running r 0 0)
-      go NoneYet h = absurd h
-      go (Found i x) h = tried_begun (with_place s i.0) s.core.trying h
+      go : (b : Best) → T (decide_at t p s b).begun → (r : Rung) × ((decide_at t p s b).state.core.trying ≡ try_of r 0 0)
+      go None h = absurd h
+      go (Some b) h = tried_begun (with_place s b.place.0) s.core.trying h
 
 -- ---- a frame call, whole
 module _ (t : Table) (p : Prices) (s : State) (fs : List Frame) (snr : Reading) where
   -- where none ran, one that runs was begun
-  pub frames_idle : s.core.trying ≡ Nothing → Off (decide t p (inside t p s fs snr))
+  pub frames_idle : s.core.trying ≡ None → Off (decide t p (inside t p s fs snr))
   frames_idle e = decide_idle t p (inside t p s fs snr) (inside_nothing t p s fs snr e)
 
   -- one that ran does not run on, or has counted the call
-  pub frames_running : (r : Rung) (calls frames : ℕ) → s.core.trying ≡ Running r calls frames
+  pub frames_running : (r : Rung) (calls frames : ℕ) → s.core.trying ≡ try_of r calls frames
       → let d = decide t p (inside t p s fs snr) in Off d ⊎ Goes r (suc calls) d.state.core.trying
   frames_running r calls frames e = go (inside_counts t p s fs snr r calls frames e) (decide_running t p (inside t p s fs snr))
     where

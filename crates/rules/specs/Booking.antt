@@ -4,14 +4,13 @@ use Rattle.std.specs.Float.Ieee.{neg, lt}
 use Rattle.float.specs.Numbers.{f64, ◌⊕◌, ◌⊖◌, ◌⊗◌, ◌⊘◌, of_nat, f0, f1, f5, f20}
 use Rattle.float.specs.Sum.{total}
 use Rattle.half.specs.Power.{half}
-use Rattle.limits.specs.declared.reading.Reading.{Reading}
-use Rattle.limits.specs.declared.reading.Reading.TheVariants.{Missing, Value}
+use Rattle.limits.specs.Readings.{Reading}
+use Rattle.std.specs.Prelude.{None, Some}
 use Rattle.ladder.specs.declared.types.Table.{Table}
 use Rattle.ladder.specs.Lists.{every}
 use Rattle.ladder.specs.Types.{rung, row, rung_at, rungs_of, places_of, is_floor}
 use Rattle.account.specs.declared.types.Account.{Account}
-use Rattle.account.specs.declared.types.Mark.{Mark}
-use Rattle.account.specs.declared.types.Mark.TheVariants.{Nowhere, On}
+use Rattle.account.specs.State.{Mark}
 use Rattle.account.specs.declared.types.Offsets.{Offsets}
 use Rattle.account.specs.declared.types.State.{State}
 use Rattle.account.specs.State.{no_account, choice}
@@ -40,8 +39,8 @@ offsets_from t snr [] o = o
 offsets_from t snr (f ∷ fs) o = offsets_from t snr fs (offset_step t snr f o)
 
 abbrev pub offsets_at : Table → Reading → List Frame → Offsets → Offsets
-offsets_at t Missing fs o = o
-offsets_at t (Value snr) fs o = offsets_from t snr fs o
+offsets_at t None fs o = o
+offsets_at t (Some snr) fs o = offsets_from t snr fs o
 
 unfoldable pub offsets_after : Table → State → List Frame → Offsets
 offsets_after t s fs = offsets_at t s.core.snr fs s.core.offsets
@@ -97,7 +96,7 @@ abbrev pub sent : List Frame → ℕ → Bool
 sent fs r = some_of (at r) fs
 
 unfoldable pub clean_mark : ℕ → List Frame → Mark
-clean_mark here fs = cond (sent fs here && every (λ f. not (at here f) || (f.decoded && not f.combined)) fs) (On (rung here)) Nowhere
+clean_mark here fs = cond (sent fs here && every (λ f. not (at here f) || (f.decoded && not f.combined)) fs) (Some (rung here)) None
 
 -- all that the frames alone change, the SNR being smoothed already
 unfoldable pub booked : Table → State → List Frame → State

@@ -3,8 +3,8 @@ use Rattle.std.specs.Prelude.{◌&&◌, List, [], ◌∷◌}
 use Rattle.limits.specs.Values.{ok_air, ok_bytes}
 use Rattle.limits.specs.Refusals.{unless, or_else}
 use Rattle.limits.specs.declared.refusal.Refusal.TheVariants.{UnknownRung, OutsideLimits}
-use Rattle.limits.specs.declared.refusal.Verdict.{Verdict}
-use Rattle.limits.specs.declared.refusal.Verdict.TheVariants.{Accepted}
+use Rattle.limits.specs.Refusals.{Verdict}
+use Rattle.std.specs.Prelude.{Ok}
 use Rattle.ladder.specs.declared.types.Table.{Table}
 use Rattle.ladder.specs.Types.{in_table}
 use Rattle.rules.specs.Booking.{Frame}
@@ -15,5 +15,5 @@ frame_verdict t f = or_else (unless (in_table t f.rung.0) UnknownRung) (unless (
 
 -- "the first bad frame (6 before 8)"
 abbrev pub first_bad : Table → List Frame → Verdict
-first_bad t [] = Accepted
+first_bad t [] = (Ok tt)
 first_bad t (f ∷ fs) = or_else (frame_verdict t f) (first_bad t fs)

@@ -2,28 +2,27 @@
 use Rattle.std.specs.Prelude.{Bool, false, not, ◌&&◌, ◌||◌, cond, ℕ, zero, suc, ◌-◌, ltb, Float}
 use Rattle.std.specs.Float.Ieee.{neg, lt}
 use Rattle.float.specs.Numbers.{f64, ◌⊕◌, ◌⊗◌}
-use Rattle.limits.specs.declared.reading.Reading.{Reading}
-use Rattle.limits.specs.declared.reading.Reading.TheVariants.{Missing, Value}
+use Rattle.limits.specs.Readings.{Reading}
+use Rattle.std.specs.Prelude.{None, Some}
 use Rattle.ladder.specs.declared.types.Table.{Table}
 use Rattle.ladder.specs.Lists.{some_from}
 use Rattle.ladder.specs.Types.{row, rung_at, places_of, is_floor}
-use Rattle.account.specs.declared.types.Trying.{Trying}
-use Rattle.account.specs.declared.types.Trying.TheVariants.{Nothing, Running}
+use Rattle.account.specs.State.{Trying}
 use Rattle.account.specs.declared.types.Prices.{Prices}
 use Rattle.account.specs.declared.types.State.{State}
 use Rattle.account.specs.State.{choice, with_trying, with_snr, with_echo, with_place}
 use Rattle.account.specs.Price.{estimate_at, priced, value}
-use Rattle.rules.specs.Lowest.{NoneYet, greatest, best_place}
+use Rattle.rules.specs.Lowest.{greatest, best_place}
 
 -- ---- smoothing: "the first reading stands itself"
 abbrev pub smooth : Float → Float → Reading → Float → Reading
-smooth old new Missing x = Value x
-smooth old new (Value y) x = Value (old ⊗ y ⊕ new ⊗ x)
+smooth old new None x = Some x
+smooth old new (Some y) x = Some (old ⊗ y ⊕ new ⊗ x)
 
 -- "SNR smooths 0.7 old + 0.3 new"; a missing reading is no news
 abbrev pub smooth_snr : Reading → Reading → Reading
-smooth_snr y Missing = y
-smooth_snr y (Value x) = smooth (f64 0x3fe6_6666_6666_6666) (f64 0x3fd3_3333_3333_3333) y x
+smooth_snr y None = y
+smooth_snr y (Some x) = smooth (f64 0x3fe6_6666_6666_6666) (f64 0x3fd3_3333_3333_3333) y x
 
 -- "echo 0.6 old + 0.4 new"
 abbrev pub smooth_echo : Reading → Float → Reading
@@ -31,9 +30,9 @@ smooth_echo y x = smooth (f64 0x3fe3_3333_3333_3333) (f64 0x3fd9_9999_9999_999a)
 
 -- "A rung is out only when echo > its limit"
 abbrev pub over : Reading → Reading → Bool
-over Missing e = false
-over (Value l) Missing = false
-over (Value l) (Value e) = lt l e
+over None e = false
+over (Some l) None = false
+over (Some l) (Some e) = lt l e
 
 abbrev pub out : Table → State → ℕ → Bool
 out t s r = over (row t r).limit s.core.echo
@@ -44,13 +43,13 @@ usable t s i = ltb i (places_of t) && not (out t s (rung_at t i))
 
 -- ---- `observe_echo`
 abbrev pub end_if_out : Table → State → Trying → State
-end_if_out t s Nothing = s
-end_if_out t s (Running r calls frames) = cond (out t s r.0) (with_trying s Nothing) s
+end_if_out t s None = s
+end_if_out t s (Some y) = cond (out t s y.rung.0) (with_trying s None) s
 
 -- "a choice that is out goes to the lowest of greatest value among allowed places under it, else place 0"
 abbrev pub down_if_out : Table → Prices → State → State
 down_if_out t p s =
-    cond (out t s (choice t s)) (with_place s (best_place (greatest s.core.place.0 0 (usable t s) (λ i. value t p s (rung_at t i)) NoneYet))) s
+    cond (out t s (choice t s)) (with_place s (best_place (greatest s.core.place.0 0 (usable t s) (λ i. value t p s (rung_at t i)) None))) s
 
 -- "else the echo is smoothed, a try whose rung is now out ends, and a choice that is out .."
 abbrev pub echoed : Table → Prices → State → State
@@ -58,8 +57,8 @@ echoed t p s = down_if_out t p (end_if_out t s s.core.trying)
 
 -- "`observe_echo`: a missing share or an SNR under -6 changes nothing"
 unfoldable pub observe_echo : Table → Prices → State → Reading → Float → State
-observe_echo t p s Missing snr = s
-observe_echo t p s (Value x) snr = cond (lt snr (neg (f64 0x4018_0000_0000_0000))) s (echoed t p (with_echo s (smooth_echo s.core.echo x)))
+observe_echo t p s None snr = s
+observe_echo t p s (Some x) snr = cond (lt snr (neg (f64 0x4018_0000_0000_0000))) s (echoed t p (with_echo s (smooth_echo s.core.echo x)))
 
 -- ---- `silent`: "a try ends; the choice goes to the highest allowed place at or under choice - steps (not below 0), else 0"
 abbrev pub highest : Table → State → ℕ → ℕ
@@ -67,16 +66,16 @@ highest t s zero = 0
 highest t s (suc i) = cond (usable t s (suc i)) (suc i) (highest t s i)
 
 unfoldable pub silent : Table → State → ℕ → State
-silent t s steps = with_place (with_trying s Nothing) (highest t s (s.core.place.0 - steps))
+silent t s steps = with_place (with_trying s None) (highest t s (s.core.place.0 - steps))
 
 -- ---- `first_mode`: "the lowest of greatest priced estimate at the SNR given, over allowed places, else place 0"
 abbrev pub first_place : Table → Prices → State → Float → ℕ
-first_place t p s snr = best_place (greatest (places_of t) 0 (usable t s) (λ i. priced t p (rung_at t i) (estimate_at t s (rung_at t i) (Value snr))) NoneYet)
+first_place t p s snr = best_place (greatest (places_of t) 0 (usable t s) (λ i. priced t p (rung_at t i) (estimate_at t s (rung_at t i) (Some snr))) None)
 
 -- ---- `seed`: "nothing once an SNR is known; else the SNR is taken and the choice is `first_mode`"
 abbrev pub seed_at : Table → Prices → State → Float → Reading → State
-seed_at t p s snr Missing = with_place (with_snr s (Value snr)) (first_place t p s snr)
-seed_at t p s snr (Value x) = s
+seed_at t p s snr None = with_place (with_snr s (Some snr)) (first_place t p s snr)
+seed_at t p s snr (Some x) = s
 
 unfoldable pub seed : Table → Prices → State → Float → State
 seed t p s snr = seed_at t p s snr s.core.snr

@@ -1,17 +1,24 @@
 -- "the lowest of greatest value": how it is found, place by place, and what it is. Definitions only.
-use Rattle.std.specs.Prelude.{◌≡◌, Bool, true, not, ◌&&◌, cond, ℕ, zero, suc, ◌<◌, T, Float}
+use Rattle.std.specs.Prelude.{◌≡◌, Bool, true, not, ◌&&◌, cond, ℕ, zero, suc, ◌<◌, T, Option, None, Some, Float}
 use Rattle.std.specs.Float.Ieee.{lt}
+use Rattle.ladder.specs.declared.types.Place.{Place}
 use Rattle.ladder.specs.Types.{place}
-pub use Rattle.rules.specs.declared.lowest.Best.{Best}
-pub use Rattle.rules.specs.declared.lowest.Best.TheVariants.{NoneYet, Found}
+pub use Rattle.rules.specs.declared.lowest.Found.{Found}
+
+-- the best place found so far and its value, if there is one
+abbrev pub Best : Type 0
+Best = Option Found
+
+abbrev pub found : Place → Float → Best
+found i x = Some (record { place = i; value = x })
 
 -- of n places from i on, those allowed; `best` is what was found before
 abbrev pub beats : Float → Best → Bool
-beats x NoneYet = true
-beats x (Found j y) = lt y x
+beats x None = true
+beats x (Some b) = lt b.value x
 
 abbrev pub improved : (ℕ → Bool) → (ℕ → Float) → ℕ → Best → Best
-improved allowed worth i best = cond (allowed i && beats (worth i) best) (Found (place i) (worth i)) best
+improved allowed worth i best = cond (allowed i && beats (worth i) best) (found (place i) (worth i)) best
 
 unfoldable pub greatest : ℕ → ℕ → (ℕ → Bool) → (ℕ → Float) → Best → Best
 greatest zero i allowed worth best = best
@@ -19,8 +26,8 @@ greatest (suc n) i allowed worth best = greatest n (suc i) allowed worth (improv
 
 -- "else place 0"
 abbrev pub best_place : Best → ℕ
-best_place NoneYet = 0
-best_place (Found i x) = i.0
+best_place None = 0
+best_place (Some b) = b.place.0
 
 -- ---- what is found (`lowest_of_greatest` of proofs/LowestFound.antt, for values that are numbers; `decides_lowest` of the crate finite: in every call they are)
 module _ (allowed : ℕ → Bool) (worth : ℕ → Float) where
@@ -34,5 +41,5 @@ module _ (allowed : ℕ → Bool) (worth : ℕ → Float) where
 
   -- of the m lowest places none is allowed, or one is the lowest of greatest value
   abbrev pub BestOf : ℕ → Best → Type 0
-  BestOf m NoneYet = (j : ℕ) → j < m → T (not (allowed j))
-  BestOf m (Found p x) = Lowest m p.0 x
+  BestOf m None = (j : ℕ) → j < m → T (not (allowed j))
+  BestOf m (Some b) = Lowest m b.place.0 b.value

@@ -1,6 +1,6 @@
 -- "A transmission": `observe_frames`, whole, in the document's order. Definitions only.
 use Rattle.std.specs.Prelude.{List, [], ◌∷◌}
-use Rattle.limits.specs.declared.reading.Reading.{Reading}
+use Rattle.limits.specs.Readings.{Reading}
 use Rattle.ladder.specs.declared.types.Table.{Table}
 use Rattle.account.specs.declared.types.Prices.{Prices}
 use Rattle.account.specs.declared.types.State.{State}

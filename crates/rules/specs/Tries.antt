@@ -5,17 +5,17 @@ use Rattle.std.specs.Float.Ieee.{le, lt}
 use Rattle.float.specs.Numbers.{f64, ◌⊖◌, f0, f2}
 use Rattle.ladder.specs.declared.types.Table.{Table}
 use Rattle.ladder.specs.Types.{rung, rung_at, places_of, is_floor}
-use Rattle.account.specs.declared.types.Trying.{Trying}
-use Rattle.account.specs.declared.types.Trying.TheVariants.{Nothing, Running}
-use Rattle.account.specs.declared.types.Mark.{Mark}
-use Rattle.account.specs.declared.types.Mark.TheVariants.{Nowhere, On}
+use Rattle.account.specs.State.{Trying}
+use Rattle.std.specs.Prelude.{None, Some}
+use Rattle.account.specs.State.{try_of}
+use Rattle.account.specs.State.{Mark}
 use Rattle.account.specs.declared.types.Prices.{Prices}
 use Rattle.account.specs.declared.types.State.{State}
 use Rattle.account.specs.State.{account, time_of, wait_of, choice, with_time, with_wait, with_trying, with_place}
 use Rattle.account.specs.Price.{value, lossless_price, wait_seconds}
 use Rattle.rules.specs.Lists.{how_many}
 use Rattle.rules.specs.Echo.{usable}
-use Rattle.rules.specs.Lowest.{Best, NoneYet, Found, greatest}
+use Rattle.rules.specs.Lowest.{Best, greatest}
 use Rattle.rules.specs.Booking.{Frame, at, sent}
 
 -- ---- judging a rung: "Judged better: wait 6; else min(48, 2 × wait), time 0."
@@ -27,8 +27,8 @@ judge_try t p s r = cond (better t p s r) (with_wait s r 6) (with_time (with_wai
 
 -- whether the rung r is being tried
 abbrev pub tries : Trying → ℕ → Bool
-tries Nothing r = false
-tries (Running q calls frames) r = eqb q.0 r
+tries None r = false
+tries (Some y) r = eqb y.rung.0 r
 
 -- "The distinct rungs of a transmission are taken from lowest to highest; each above the choice and not tried is judged." Of n rungs from r on.
 abbrev pub to_judge : Table → State → List Frame → ℕ → Bool
@@ -62,16 +62,16 @@ end_try t p s r frames = cond (eqb frames 0) s (cond (better t p s r) (won t p (
 -- "A running try counts the call and its own frames; over at 3 frames or 6 calls"
 -- its own frames, of a call
 abbrev pub own_frames : List Frame → Trying → ℕ
-own_frames fs Nothing = 0
-own_frames fs (Running r calls frames) = how_many (at r.0) fs
+own_frames fs None = 0
+own_frames fs (Some y) = how_many (at y.rung.0) fs
 
 -- n is the call's count of them
 unfoldable pub counted : Table → Prices → ℕ → State → Trying → State
-counted t p n s Nothing = s
-counted t p n s (Running r calls frames) =
-    cond (leb 3 (frames + n) || leb 6 (suc calls))
-    (end_try t p (with_trying s Nothing) r.0 (frames + n))
-    (with_trying s (Running r (suc calls) (frames + n)))
+counted t p n s None = s
+counted t p n s (Some y) =
+    cond (leb 3 (y.frames + n) || leb 6 (suc y.calls))
+    (end_try t p (with_trying s None) y.rung.0 (y.frames + n))
+    (with_trying s (try_of y.rung (suc y.calls) (y.frames + n)))
 
 -- ---- `decide`
 -- what it leaves, and whether it began a try
@@ -91,7 +91,7 @@ candidate t s i = usable t s i && (leb i s.core.place.0 || lt f2 (account s (run
 
 -- "the lowest of greatest value"
 unfoldable pub choose : Table → Prices → State → Best
-choose t p s = greatest (places_of t) 0 (candidate t s) (λ i. value t p s (rung_at t i)) NoneYet
+choose t p s = greatest (places_of t) 0 (candidate t s) (λ i. value t p s (rung_at t i)) None
 
 -- 1e-9, the wait's tolerance in seconds
 abbrev pub nano : Float
@@ -103,8 +103,8 @@ due t p s r = le (wait_seconds t p.tariff s r ⊖ nano) (time_of s r)
 
 -- "`clean_climb` holds: the mark is on the choice, both rungs are of one family, the upper one's wait is 6 and its value > the choice's"
 abbrev pub is_on : Mark → ℕ → Bool
-is_on Nowhere r = false
-is_on (On q) r = eqb q.0 r
+is_on None r = false
+is_on (Some q) r = eqb q.0 r
 
 unfoldable pub clean_climb : Table → Prices → State → ℕ → Bool
 clean_climb t p s r =
@@ -121,17 +121,17 @@ begins t p s =
 
 -- "Its time becomes 0."
 abbrev pub begin : Table → State → Decided
-begin t s = record { state = with_trying (with_time s (above t s) f0) (Running (rung (above t s)) 0 0); begun = true }
+begin t s = record { state = with_trying (with_time s (above t s) f0) (try_of (rung (above t s)) 0 0); begun = true }
 
 -- "With a try running it also stops, after ending one that is not exactly above."
 abbrev pub decide_try : Table → Prices → State → Trying → Decided
-decide_try t p s Nothing = cond (begins t p s) (begin t s) (still s)
-decide_try t p s (Running r calls frames) = still (cond (usable t s (suc s.core.place.0) && eqb (above t s) r.0) s (with_trying s Nothing))
+decide_try t p s None = cond (begins t p s) (begin t s) (still s)
+decide_try t p s (Some y) = still (cond (usable t s (suc s.core.place.0) && eqb (above t s) y.rung.0) s (with_trying s None))
 
 -- "none gives place 0 and ends any try, and `decide` stops"
 abbrev pub decide_at : Table → Prices → State → Best → Decided
-decide_at t p s NoneYet = still (with_trying (with_place s 0) Nothing)
-decide_at t p s (Found i x) = decide_try t p (with_place s i.0) s.core.trying
+decide_at t p s None = still (with_trying (with_place s 0) None)
+decide_at t p s (Some b) = decide_try t p (with_place s b.place.0) s.core.trying
 
 unfoldable pub decide : Table → Prices → State → Decided
 decide t p s = decide_at t p s (choose t p s)

@@ -23,11 +23,11 @@ pub fn frame_verdict(rungs: u32, f: Frame) -> Verdict
     ensures { result ≡ frame_in rungs f }
 {
     if f.rung.0 >= rungs {
-        Verdict::Refused(Refusal::UnknownRung)
+        Err(Refusal::UnknownRung)
     } else if limits::values::ok_air(f.air) && limits::values::ok_bytes(f.capacity) {
-        Verdict::Accepted
+        Ok(())
     } else {
-        Verdict::Refused(Refusal::OutsideLimits)
+        Err(Refusal::OutsideLimits)
     }
 }
 
@@ -46,7 +46,7 @@ impl Check {
         Check {
             rungs: t.rungs(),
             count: 0,
-            verdict: Verdict::Accepted,
+            verdict: Ok(()),
         }
     }
 
@@ -57,7 +57,7 @@ impl Check {
     {
         Check {
             count: count_up(self.count),
-            verdict: limits::refusal::or_else(self.verdict, frame_verdict(self.rungs, f)),
+            verdict: self.verdict.and(frame_verdict(self.rungs, f)),
             ..self
         }
     }

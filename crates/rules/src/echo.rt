@@ -1,16 +1,13 @@
 // Document 01's section "Echo and silence", as far as single values go.
-ghost use Rattle.std.specs.Prelude.{◌≡◌};
+ghost use Rattle.std.specs.Prelude.{◌≡◌, Some};
 ghost use Rattle.rules.specs.Echo.{smooth, smooth_snr, smooth_echo, over};
 
 use limits::reading::Reading;
 
-fn smooth(old: f64, new: f64, y: Reading, x: f64) -> Reading
-    ensures { result ≡ smooth old new y x }
+fn smooth(old: f64, new: f64, y: Reading, x: f64) -> f64
+    ensures { Some result ≡ smooth old new y x }
 {
-    match y {
-        Reading::Missing => Reading::Value(x),
-        Reading::Value(before) => Reading::Value(old * before + new * x),
-    }
+    y.map_or(x, |before| old * before + new * x)
 }
 
 // The smoothed SNR y after a reading; a missing one is no news.
@@ -18,8 +15,8 @@ pub fn smooth_snr(y: Reading, snr: Reading) -> Reading
     ensures { result ≡ smooth_snr y snr }
 {
     match snr {
-        Reading::Missing => y,
-        Reading::Value(x) => smooth(0.7, 0.3, y, x),
+        None => y,
+        Some(x) => Some(smooth(0.7, 0.3, y, x)),
     }
 }
 
@@ -27,7 +24,7 @@ pub fn smooth_snr(y: Reading, snr: Reading) -> Reading
 pub fn smooth_echo(y: Reading, x: f64) -> Reading
     ensures { result ≡ smooth_echo y x }
 {
-    smooth(0.6, 0.4, y, x)
+    Some(smooth(0.6, 0.4, y, x))
 }
 
 // Whether an echo is over a limit.
@@ -35,7 +32,7 @@ pub fn over_limit(limit: Reading, echo: Reading) -> bool
     ensures { result ≡ over limit echo }
 {
     match (limit, echo) {
-        (Reading::Value(l), Reading::Value(e)) => e > l,
+        (Some(l), Some(e)) => e > l,
         _ => false,
     }
 }

@@ -1,32 +1,29 @@
 // The lowest of greatest value: the best place found so far, and whether one place more is better.
 ghost use Rattle.std.specs.Prelude.{◌≡◌, cond};
-ghost use Rattle.rules.specs.Lowest.{Found, beats, best_place};
+ghost use Rattle.rules.specs.Lowest.{found, beats, best_place};
 
 use ladder::types::Place;
 
-// The best place found so far, and its value.
-#[derive(Clone, Copy)]
-pub enum Best {
-    NoneYet,
-    Found(Place, f64),
+// A place that was found, and its value.
+#[derive(Clone, Copy, PartialEq, Debug)]
+pub struct Found {
+    pub place: Place,
+    pub value: f64,
 }
 
-// The better of the best so far and the place i with value v: of equal values the earlier, which is the lower.
-pub fn beat(best: Best, i: Place, v: f64) -> Best
-    ensures { result ≡ cond (beats v best) (Found i v) best }
+// The better of the best so far and a place with its value: of equal values the earlier, which is the lower.
+pub fn beat(best: Option<Found>, place: Place, value: f64) -> Option<Found>
+    ensures { result ≡ cond (beats value best) (found place value) best }
 {
     match best {
-        Best::NoneYet => Best::Found(i, v),
-        Best::Found(_, b) => if v > b { Best::Found(i, v) } else { best },
+        Some(so_far) if !(value > so_far.value) => best,
+        _ => Some(Found { place, value }),
     }
 }
 
 // The best place, place 0 where there is none.
-pub fn best_place(best: Best) -> u32
-    ensures { result ≡ best_place best }
+pub fn best_place(best: Option<Found>) -> Place
+    ensures { result.0 ≡ best_place best }
 {
-    match best {
-        Best::NoneYet => 0,
-        Best::Found(i, _) => i.0,
-    }
+    best.map_or(Place(0), |found| found.place)
 }

@@ -3,11 +3,10 @@ ghost use Rattle.std.specs.Prelude.{◌≡◌};
 ghost use Rattle.rules.specs.bridges.Pass.{no_marks, mark_family, mark_choice, family_mark, choice_mark};
 
 use crate::types::Frame;
-use account::types::Mark;
 use ladder::types::{Rung, Table};
 
 // Whether an OFDM frame was sent, whether one was decoded, whether a frame went at the choice, and whether each of those was decoded alone.
-#[derive(Clone, Copy)]
+#[derive(Clone, Copy, PartialEq, Eq, Debug)]
 pub struct Marks {
     pub ofdm: bool,
     pub heard: bool,
@@ -64,13 +63,9 @@ impl Marks {
     }
 
     // The clean mark after the pass.
-    pub fn clean_mark(self, here: Rung) -> Mark
+    pub fn clean_mark(self, here: Rung) -> Option<Rung>
         ensures { result ≡ choice_mark self here }
     {
-        if self.chosen && self.alone {
-            Mark::On(here)
-        } else {
-            Mark::Nowhere
-        }
+        (self.chosen && self.alone).then_some(here)
     }
 }

@@ -66,7 +66,7 @@ pub fn move_offsets(t: &Table, snr: Reading, f: Frame, o: Offsets) -> Offsets
     ensures { result ≡ offsets_by t.now snr f o }
 {
     match snr {
-        Reading::Missing => o,
-        Reading::Value(x) => move_family(t, x, f, o),
+        None => o,
+        Some(x) => move_family(t, x, f, o),
     }
 }

@@ -13,7 +13,7 @@ use account::types::{Core, Offsets, State};
 use ladder::types::{Rung, Table};
 
 // The set of rungs sent, offsets, the call's air, the try's own frames, up to 3, and the marks.
-#[derive(Clone, Copy)]
+#[derive(Clone, Copy, PartialEq, Debug)]
 pub struct Pass {
     pub sent: u32,
     pub offsets: Offsets,

@@ -1,11 +1,11 @@
 // Judging and trying, as far as single values go.
 ghost use Rattle.std.specs.Prelude.{◌≡◌, ◌||◌, suc, ◌*◌, min, leb, ltb};
 ghost use Rattle.std.specs.Bool.{beq};
-ghost use Rattle.rules.specs.Tries.{tries, is_on};
+ghost use Rattle.rules.specs.Tries.{tries};
 ghost use Rattle.rules.specs.bridges.Pass.{is_own, count_own};
 
 use crate::types::Frame;
-use account::types::{Mark, Trying};
+use account::types::Try;
 use ladder::types::{Rung, Table};
 
 // The longest wait before a rung is tried, in full transmissions.
@@ -27,21 +27,21 @@ pub fn longer(w: u32) -> u32
 }
 
 // Whether the rung r is being tried.
-pub fn is_trying(y: Trying, r: Rung) -> bool
+pub fn is_trying(y: Option<Try>, r: Rung) -> bool
     ensures { result ≡ tries y r.0 }
 {
-    matches!(y, Trying::Running(q, _, _) if q == r)
+    y.is_some_and(|y| y.rung == r)
 }
 
 // Whether a frame went at the rung being tried.
-fn is_own(y: Trying, f: Frame) -> bool
+fn is_own(y: Option<Try>, f: Frame) -> bool
     ensures { result ≡ is_own y f }
 {
-    matches!(y, Trying::Running(r, _, _) if f.rung == r)
+    y.is_some_and(|y| f.rung == y.rung)
 }
 
 // The count with a frame, no further than what decides.
-pub fn count_own(y: Trying, f: Frame, n: u32) -> u32
+pub fn count_own(y: Option<Try>, f: Frame, n: u32) -> u32
     ensures { result ≡ count_own y f n }
 {
     if is_own(y, f) && n < TRY_FRAMES {
@@ -56,12 +56,6 @@ pub fn is_over(frames: u64, calls: u32) -> bool
     ensures { result ≡ (leb 3 frames || leb 6 (suc calls)) }
 {
     frames >= TRY_FRAMES as u64 || calls >= TRY_CALLS - 1
-}
-
-pub fn is_on(m: Mark, r: Rung) -> bool
-    ensures { result ≡ is_on m r.0 }
-{
-    matches!(m, Mark::On(q) if q == r)
 }
 
 // Whether two rungs are of one family.

@@ -2,7 +2,7 @@
 use ladder::types::Rung;
 
 // One data frame of a transmission, as the receiving station saw it.
-#[derive(Clone, Copy)]
+#[derive(Clone, Copy, PartialEq, Debug)]
 pub struct Frame {
     pub rung: Rung,
     pub detected: bool,

@@ -4,8 +4,8 @@ use mathlib.Core.List.{List, foldl}
 use Rattle.limits.specs.Values.{ok_air, ok_bytes}
 use Rattle.limits.specs.Refusals.{unless, or_else}
 use Rattle.limits.specs.declared.refusal.Refusal.TheVariants.{UnknownRung, OutsideLimits}
-use Rattle.limits.specs.declared.refusal.Verdict.{Verdict}
-use Rattle.limits.specs.declared.refusal.Verdict.TheVariants.{Accepted}
+use Rattle.limits.specs.Refusals.{Verdict}
+use Rattle.std.specs.Prelude.{Ok}
 use Rattle.ladder.specs.declared.types.Air.{Air}
 use Rattle.rules.specs.Booking.{Frame}
 pub use Rattle.rules.specs.declared.check.Check.{Check}
@@ -19,7 +19,7 @@ abbrev pub count_up : ℕ → ℕ
 count_up n = cond (ltb n 257) (suc n) n
 
 abbrev pub begin_check : Air → Check
-begin_check a = record { rungs = min 32 a.count; count = 0; verdict = Accepted }
+begin_check a = record { rungs = min 32 a.count; count = 0; verdict = (Ok tt) }
 
 unfoldable pub check_step : Check → Frame → Check
 check_step c f = record { rungs = c.rungs; count = count_up c.count; verdict = or_else c.verdict (frame_in c.rungs f) }

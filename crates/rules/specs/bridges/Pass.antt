@@ -6,18 +6,16 @@ use Rattle.std.specs.Int.Bits.{bit_or}
 use Rattle.std.specs.Float.Ieee.{lt, eq}
 use Rattle.float.specs.Numbers.{◌⊕◌, ◌⊗◌, ◌⊘◌, f0, f1}
 use Rattle.half.specs.Power.{half}
-use Rattle.limits.specs.declared.reading.Reading.{Reading}
-use Rattle.limits.specs.declared.reading.Reading.TheVariants.{Missing, Value}
+use Rattle.limits.specs.Readings.{Reading}
+use Rattle.std.specs.Prelude.{None, Some}
 use Rattle.ladder.specs.declared.types.Rung.{Rung}
 use Rattle.ladder.specs.declared.types.Table.{Table}
 use Rattle.ladder.specs.Types.{rung, row, rung_at, rungs_of, places_of, is_floor}
-use Rattle.account.specs.declared.types.Mark.{Mark}
-use Rattle.account.specs.declared.types.Mark.TheVariants.{Nowhere, On}
+use Rattle.account.specs.State.{Mark}
 use Rattle.account.specs.declared.types.Offsets.{Offsets}
 use Rattle.account.specs.declared.types.Prices.{Prices}
 use Rattle.account.specs.declared.types.State.{State}
-use Rattle.account.specs.declared.types.Trying.{Trying}
-use Rattle.account.specs.declared.types.Trying.TheVariants.{Nothing, Running}
+use Rattle.account.specs.State.{Trying}
 use Rattle.account.specs.declared.types.Core.{Core}
 use Rattle.rules.specs.Booking.{Frame, at, f12, offset_step, book, passed}
 use Rattle.rules.specs.Tries.{Decided, counted, decide}
@@ -53,8 +51,8 @@ no_fades = record { by = replicate 32 f1; air = f0 }
 
 -- ---- offsets: "with SNR known"
 abbrev pub offsets_by : Table → Reading → Frame → Offsets → Offsets
-offsets_by t Missing f o = o
-offsets_by t (Value snr) f o = offset_step t snr f o
+offsets_by t None f o = o
+offsets_by t (Some snr) f o = offset_step t snr f o
 
 -- ---- marks
 abbrev pub no_marks : Marks
@@ -73,12 +71,12 @@ abbrev pub family_mark : Marks → Bool → Bool
 family_mark m failed = cond m.ofdm (not m.heard) failed
 
 abbrev pub choice_mark : Marks → Rung → Mark
-choice_mark m here = cond (m.chosen && m.alone) (On here) Nowhere
+choice_mark m here = cond (m.chosen && m.alone) (Some here) None
 
 -- ---- the try's own frames: "over at 3 frames", so it counts no further
 abbrev pub is_own : Trying → Frame → Bool
-is_own Nothing f = false
-is_own (Running r calls frames) f = at r.0 f
+is_own None f = false
+is_own (Some y) f = at y.rung.0 f
 
 abbrev pub count_own : Trying → Frame → ℕ → ℕ
 count_own y f n = cond (is_own y f) (cond (ltb n 3) (suc n) n) n
