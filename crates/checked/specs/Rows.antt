@@ -6,7 +6,7 @@ use Rattle.half.specs.Power.{half, f1022}
 use Rattle.half.specs.Logistic.{decode_probability}
 use Rattle.limits.specs.declared.refusal.Refusal.{Refusal}
 use Rattle.limits.specs.declared.refusal.Refusal.TheVariants.{EmptyFront}
-use Rattle.limits.specs.declared.refusal.Verdict.TheVariants.{Refused}
+use Rattle.std.specs.Prelude.{Ok, Err}
 use Rattle.limits.specs.Refusals.{refusal_number}
 use Rattle.ladder.specs.Lists.{select}
 use Rattle.ladder.specs.Tables.{Columns, table_verdict, front_of_columns, table_of, for_air}
@@ -49,7 +49,7 @@ abbrev pub Says : Row → Type 0
 Says (half_is t r) = half t ≡ r
 Says (probability_is snr threshold slope p) = decode_probability snr threshold slope ≡ p
 Says (probability_over snr threshold slope p) = lt p (decode_probability snr threshold slope) ≡ true
-Says (refused_with c why n) = (table_verdict c ≡ Refused why) × (refusal_number why ≡ n)
+Says (refused_with c why n) = (table_verdict c ≡ Err why) × (refusal_number why ≡ n)
 Says (place_is k calls n) = (after k calls).state.core.place.0 ≡ n
 Says (front_lacks c gone) = front_of_columns c ≡ select (length c.thresholds) 0 (λ r. not (has gone r))
 

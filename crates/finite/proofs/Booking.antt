@@ -18,10 +18,10 @@ use Rattle.half.proofs.Range.{half_share}
 use Rattle.limits.specs.Values.{ok_air, ok_bytes}
 use Rattle.limits.specs.Refusals.{unless}
 use Rattle.limits.specs.declared.refusal.Refusal.TheVariants.{UnknownRung, OutsideLimits}
-use Rattle.limits.specs.declared.refusal.Verdict.TheVariants.{Accepted}
+use Rattle.std.specs.Prelude.{Ok, Err}
 use Rattle.limits.proofs.Verdicts.{or_else_lem, unless_not}
-use Rattle.limits.specs.declared.reading.Reading.{Reading}
-use Rattle.limits.specs.declared.reading.Reading.TheVariants.{Missing, Value}
+use Rattle.limits.specs.Readings.{Reading}
+use Rattle.std.specs.Prelude.{None, Some}
 use Rattle.ladder.specs.declared.types.Table.{Table}
 use Rattle.ladder.specs.Types.{row, rung_at, rungs_of, places_of, is_floor, in_table}
 use Rattle.limits.specs.Readings.{ok_snr}
@@ -45,7 +45,7 @@ pub record FrameIn (f : Frame) : Type 0 where
   pub air : In air_times f.air
   pub capacity : f.capacity ≤ 4096
 
-pub frames_in_lem : (t : Table) (fs : List Frame) → first_bad t fs ≡ Accepted → All FrameIn fs
+pub frames_in_lem : (t : Table) (fs : List Frame) → first_bad t fs ≡ (Ok tt) → All FrameIn fs
 frames_in_lem t [] e = tt
 frames_in_lem t (f ∷ fs) e =
     let ok = ok_air f.air && ok_bytes f.capacity in
@@ -169,8 +169,8 @@ module _ (t : Table) (ts : TableIn t) (snr : Float) (hs : In decibels snr) where
   from_in (f ∷ fs) o h = from_in fs (offset_step t snr f o) (step_in f o h)
 
 offsets_in : (t : Table) → TableIn t → (fs : List Frame) (o : Offsets) (snr : Reading) → T (ok_snr snr) → OffsetsIn o → OffsetsIn (offsets_at t snr fs o)
-offsets_in t ts fs o Missing k h = h
-offsets_in t ts fs o (Value x) k h = from_in t ts x k fs o h
+offsets_in t ts fs o None k h = h
+offsets_in t ts fs o (Some x) k h = from_in t ts x k fs o h
 
 -- ---- the call's air, and the times since a try: 2^60 and 60 add up to 2^60, and 2^120 and 2^60 to 2^120
 abbrev call_airs : Range

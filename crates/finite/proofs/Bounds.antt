@@ -10,9 +10,9 @@ use lib.Ieee.{Float, of_bits, neg, mul, le}
 use lib.Ieee.Fits.{and_l, and_r}
 use Rattle.float.specs.Numbers.{of_nat, f0, f1, f5, f20}
 use Rattle.limits.specs.Values.{f200, f60, milli, ok_db, ok_air, ok_bytes}
-use Rattle.limits.specs.declared.refusal.Verdict.TheVariants.{Accepted}
-use Rattle.limits.specs.declared.reading.Reading.{Reading}
-use Rattle.limits.specs.declared.reading.Reading.TheVariants.{Missing}
+use Rattle.std.specs.Prelude.{Ok, Err}
+use Rattle.limits.specs.Readings.{Reading}
+use Rattle.std.specs.Prelude.{None, Some}
 use Rattle.ladder.specs.declared.types.Row.{Row}
 use Rattle.ladder.specs.declared.types.Table.{Table}
 use Rattle.ladder.specs.Lists.{every, tabulate}
@@ -21,7 +21,7 @@ use Rattle.limits.specs.Readings.{ok_limit, ok_snr}
 use Rattle.ladder.specs.Tables.{Columns, table_verdict, row_of, rows_of, prior_margin, family_gain, table_of, for_air}
 use Rattle.ladder.proofs.Cases.{pick, pick_by, yes_of}
 use Rattle.ladder.proofs.Entries.{All}
-use Rattle.ladder.proofs.Accepted.{accepted_columns, Within, table_values}
+use Rattle.ladder.proofs.(Ok tt).{accepted_columns, Within, table_values}
 use Rattle.account.specs.declared.types.Account.{Account}
 use Rattle.account.specs.declared.types.Offsets.{Offsets}
 use Rattle.account.specs.declared.types.Tariff.{Tariff}
@@ -144,12 +144,12 @@ module _ (c : Columns) (w : Within c) where
         capacity = leb→le (get_or c.capacities r 0) 4096 (every_any ok_bytes c.capacities r 0 (yes_of w.capacities) tt);
         time = every_any ok_air c.times r f1 (yes_of w.times) defaults.1;
         limit = pick_by (λ (x : Reading). T (ok_limit x)) (ltb r c.limited)
-            (λ e. subst (λ (x : Reading). T (ok_limit x)) (get_or-take c.limited c.limits r Missing (ltb→lt r c.limited (yes_of e)))
-            (every_any ok_limit (take c.limited c.limits) r Missing (yes_of w.limits) tt))
+            (λ e. subst (λ (x : Reading). T (ok_limit x)) (get_or-take c.limited c.limits r None (ltb→lt r c.limited (yes_of e)))
+            (every_any ok_limit (take c.limited c.limits) r None (yes_of w.limits) tt))
             (λ e. tt);
       }) no_row_in
 
-pub made_in : (c : Columns) (wide : Bool) → table_verdict c ≡ Accepted → TableIn (for_air (table_of c) wide)
+pub made_in : (c : Columns) (wide : Bool) → table_verdict c ≡ (Ok tt) → TableIn (for_air (table_of c) wide)
 unfolding table_of rows_of
 made_in c wide e =
     let w = table_values c (accepted_columns c e).values in

@@ -12,10 +12,10 @@ use Rattle.float.specs.Numbers.{f0}
 use Rattle.limits.specs.Values.{ok_db, ok_share, ok_length, ok_burst}
 use Rattle.limits.specs.Refusals.{unless, or_else}
 use Rattle.limits.specs.declared.refusal.Refusal.TheVariants.{TooManyFrames, OutsideLimits, TooManyBursts}
-use Rattle.limits.specs.declared.refusal.Verdict.TheVariants.{Accepted}
+use Rattle.std.specs.Prelude.{Ok, Err}
 use Rattle.limits.proofs.Verdicts.{or_else_lem, unless_not}
-use Rattle.limits.specs.declared.reading.Reading.{Reading}
-use Rattle.limits.specs.declared.reading.Reading.TheVariants.{Missing, Value}
+use Rattle.limits.specs.Readings.{Reading}
+use Rattle.std.specs.Prelude.{None, Some}
 use Rattle.ladder.specs.declared.types.Table.{Table}
 use Rattle.ladder.specs.Lists.{every}
 use Rattle.ladder.specs.Types.{row}
@@ -49,7 +49,7 @@ record Kept (k : RateController) : Type 0 where
   state : Held k.state
 
 -- ---- what is accepted
-frames_ok : (t : Table) (fs : List Frame) (snr : Reading) → verdict t (Frames fs snr) ≡ Accepted → All FrameIn fs × T (ok_snr snr)
+frames_ok : (t : Table) (fs : List Frame) (snr : Reading) → verdict t (Frames fs snr) ≡ (Ok tt) → All FrameIn fs × T (ok_snr snr)
 unfolding verdict
 frames_ok t fs snr e =
     let last = unless (ok_snr snr) OutsideLimits in
@@ -61,11 +61,11 @@ frames_ok t fs snr e =
 keep : (k : RateController) (s : State) → Kept k → Held s → Kept (record { table = k.table; prices = k.prices; state = s })
 keep k s h g = record { table = h.table; tariff = h.tariff; state = g }
 
-accepted_kept : (k : RateController) (c : Call) → verdict k.table c ≡ Accepted → Kept k → TariffSound (accepted k c).controller.prices.tariff → Kept (accepted k c).controller
+accepted_kept : (k : RateController) (c : Call) → verdict k.table c ≡ (Ok tt) → Kept k → TariffSound (accepted k c).controller.prices.tariff → Kept (accepted k c).controller
 unfolding verdict accepted silent observe_echo
 accepted_kept k (Frames fs snr) e h b = let ok = frames_ok k.table fs snr e in keep k _ h (frames_held k.table k.prices h.table h.tariff k.state fs snr ok.0 ok.1 h.state)
-accepted_kept k (Echo Missing snr) e h b = h
-accepted_kept k (Echo (Value x) snr) e h b =
+accepted_kept k (Echo None snr) e h b = h
+accepted_kept k (Echo (Some x) snr) e h b =
     keep k _ h (echo_held k.table k.prices k.state x snr (and_l (ok_share x) (ok_db snr) (unless_not (ok_share x && ok_db snr) OutsideLimits e)) h.state)
 accepted_kept k (Silence steps) e h b = keep k _ h h.state
 accepted_kept k (Snr snr) e h b = keep k _ h (snr_held k.state snr (unless_not (ok_snr snr) OutsideLimits e) h.state)
@@ -124,12 +124,12 @@ lies : (a : Range) (x : Float) → T (bounded a) → In a x → Lies a.lo a.hi x
 lies a x e h = (in_finite a x e h, h)
 
 limit_lies : (x : Reading) → T (ok_limit x) → LiesIn shares.lo shares.hi x
-limit_lies Missing h = tt
-limit_lies (Value x) h = lies shares x ends.3 h
+limit_lies None h = tt
+limit_lies (Some x) h = lies shares x ends.3 h
 
 snr_lies : (x : Reading) → T (ok_snr x) → LiesIn decibels.lo decibels.hi x
-snr_lies Missing h = tt
-snr_lies (Value x) h = lies decibels x ends.0 h
+snr_lies None h = tt
+snr_lies (Some x) h = lies decibels x ends.0 h
 
 table_lies : (t : Table) → TableIn t → TableLies t
 table_lies t h = record {

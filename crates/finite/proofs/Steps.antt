@@ -7,23 +7,23 @@ use lib.Dec.{T, leb, eqb}
 use lib.Ieee.{Float, of_bits, of_int, round, neg, add, mul, le, lt}
 use Rattle.float.specs.Numbers.{f64, ◌⊕◌, ◌⊗◌, of_nat, f0}
 use Rattle.limits.specs.Values.{ok_db, ok_share}
-use Rattle.limits.specs.declared.reading.Reading.{Reading}
-use Rattle.limits.specs.declared.reading.Reading.TheVariants.{Missing, Value}
+use Rattle.limits.specs.Readings.{Reading}
+use Rattle.std.specs.Prelude.{None, Some}
 use Rattle.ladder.specs.declared.types.Table.{Table}
 use Rattle.ladder.specs.Types.{row, rung_at, places_of}
 use Rattle.limits.specs.Readings.{ok_snr, ok_limit}
 use Rattle.ladder.proofs.Cases.{pick}
 use Rattle.ladder.proofs.Entries.{All, all_set}
-use Rattle.account.specs.declared.types.Trying.{Trying}
-use Rattle.account.specs.declared.types.Trying.TheVariants.{Nothing, Running}
+use Rattle.account.specs.State.{Trying}
+use Rattle.account.specs.State.{try_of}
 use Rattle.account.specs.declared.types.Prices.{Prices}
 use Rattle.account.specs.declared.types.State.{State}
 use Rattle.account.specs.State.{wait_of, choice, with_time, with_wait, with_trying, with_place, with_snr, with_echo}
 use Rattle.account.specs.Price.{burst_or, full_air, wait_seconds}
 use Rattle.account.proofs.FullAir.{IsWait}
 use Rattle.rules.specs.declared.types.Frame.{Frame}
-use Rattle.rules.specs.declared.lowest.Best.{Best}
-use Rattle.rules.specs.declared.lowest.Best.TheVariants.{NoneYet, Found}
+use Rattle.rules.specs.Lowest.{Best}
+use Rattle.rules.specs.Lowest.{found}
 use Rattle.rules.specs.Tries.{Decided}
 use Rattle.rules.specs.Echo.{out, usable, smooth_snr, smooth_echo, end_if_out, echoed, observe_echo, seed, seed_at, observe_snr}
 use Rattle.rules.specs.Booking.{booked}
@@ -60,13 +60,13 @@ unfolding of_bits neg add mul le
 mix_ends = ((tt, tt, tt), (tt, tt, tt))
 
 snr_in : (y x : Reading) → T (ok_snr y) → T (ok_snr x) → T (ok_snr (smooth_snr y x))
-snr_in y Missing h k = h
-snr_in Missing (Value x) h k = k
-snr_in (Value y) (Value x) h k = mixed_in old_snr new_snr decibels y x mix_ends.0 h k
+snr_in y None h k = h
+snr_in None (Some x) h k = k
+snr_in (Some y) (Some x) h k = mixed_in old_snr new_snr decibels y x mix_ends.0 h k
 
 echo_in : (y : Reading) (x : Float) → T (ok_limit y) → T (ok_share x) → T (ok_limit (smooth_echo y x))
-echo_in Missing x h k = k
-echo_in (Value y) x h k = mixed_in old_echo new_echo shares y x mix_ends.1 h k
+echo_in None x h k = k
+echo_in (Some y) x h k = mixed_in old_echo new_echo shares y x mix_ends.1 h k
 
 -- ---- one field anew
 set_snr : (s : State) (x : Reading) → Held s → T (ok_snr x) → Held (with_snr s x)
@@ -85,13 +85,13 @@ set_wait s r w h k = record { accounts = h.accounts; since = h.since; wait = all
 pub snr_held : (s : State) (x : Reading) → T (ok_snr x) → Held s → Held (observe_snr s x)
 snr_held s x k h = set_snr s (smooth_snr s.core.snr x) h (snr_in s.core.snr x h.snr k)
 
-pub echo_held : (t : Table) (p : Prices) (s : State) (x snr : Float) → T (ok_share x) → Held s → Held (observe_echo t p s (Value x) snr)
+pub echo_held : (t : Table) (p : Prices) (s : State) (x snr : Float) → T (ok_share x) → Held s → Held (observe_echo t p s (Some x) snr)
 unfolding observe_echo
 echo_held t p s x snr k h = pick Held (lt snr (neg (f64 0x4018_0000_0000_0000))) h (heard (with_echo s (smooth_echo s.core.echo x)) (set_echo s (smooth_echo s.core.echo x) h (echo_in s.core.echo x h.echo k)))
   where
     off : (m : State) (y : Trying) → Held m → Held (end_if_out t m y)
-    off m Nothing g = g
-    off m (Running r calls frames) g = pick Held (out t m r.0) g g
+    off m None g = g
+    off m (Some y) g = pick Held (out t m y.rung.0) g g
 
     heard : (m : State) → Held m → Held (echoed t p m)
     heard m g = let z = end_if_out t m m.core.trying in let l = off m m.core.trying g in pick Held (out t z (choice t z)) l l
@@ -101,8 +101,8 @@ unfolding seed
 seed_held t p s snr k h = go s.core.snr
   where
     go : (x : Reading) → Held (seed_at t p s snr x)
-    go Missing = set_snr s (Value snr) h k
-    go (Value y) = h
+    go None = set_snr s (Some snr) h k
+    go (Some y) = h
 
 -- ---- a transmission
 judge_held : (t : Table) (p : Prices) (s : State) (r : ℕ) → Held s → Held (judge_try t p s r)
@@ -158,9 +158,9 @@ module _ (t : Table) (p : Prices) (ts : TableIn t) (ps : TariffIn p.tariff) wher
 
   counted_held : (n : ℕ) (s : State) (y : Trying) → Held s → Held (counted t p n s y)
   unfolding counted
-  counted_held n s Nothing h = h
-  counted_held n s (Running r calls frames) h =
-      pick Held (leb 3 (frames + n) || leb 6 (suc calls)) (end_held (with_trying s Nothing) r.0 (frames + n) h) h
+  counted_held n s None h = h
+  counted_held n s (Some y) h =
+      pick Held (leb 3 (y.frames + n) || leb 6 (suc y.calls)) (end_held (with_trying s None) y.rung.0 (y.frames + n) h) h
 
   module _ (s : State) (fs : List Frame) (snr : Reading) (k : All FrameIn fs) (x : T (ok_snr snr)) (h : Held s) where
     pub judging_held : (n : ℕ) → Held (judge_above n 0 t p fs (booked t (observe_snr s snr) fs))
@@ -175,12 +175,12 @@ module _ (t : Table) (p : Prices) (ts : TableIn t) (ps : TariffIn p.tariff) wher
   decide_held s h = go (choose t p s)
     where
       decided : (m : State) (y : Trying) → Held m → Held (decide_try t p m y).state
-      decided m Nothing k = pick (λ (d : Decided). Held d.state) (begins t p m) (set_time m (above t m) f0 k zero_time) k
-      decided m (Running r calls frames) k = pick Held (usable t m (suc m.core.place.0) && eqb (above t m) r.0) k k
+      decided m None k = pick (λ (d : Decided). Held d.state) (begins t p m) (set_time m (above t m) f0 k zero_time) k
+      decided m (Some y) k = pick Held (usable t m (suc m.core.place.0) && eqb (above t m) y.rung.0) k k
 
       go : (b : Best) → Held (decide_at t p s b).state
-      go NoneYet = h
-      go (Found i x) = decided (with_place s i.0) s.core.trying h
+      go None = h
+      go (Some b) = decided (with_place s b.place.0) s.core.trying h
 
   pub frames_held : (s : State) (fs : List Frame) (snr : Reading) → All FrameIn fs → T (ok_snr snr) → Held s → Held (observe_frames t p s fs snr).state
   unfolding observe_frames

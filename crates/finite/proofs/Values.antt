@@ -11,8 +11,8 @@ use Rattle.float.specs.Numbers.{◌⊕◌, ◌⊖◌, ◌⊗◌, of_nat, f0, f½
 use Rattle.float.proofs.Order.{number}
 use Rattle.float.proofs.Share.{Share}
 use Rattle.half.proofs.Range.{probability_share, from_share}
-use Rattle.limits.specs.declared.reading.Reading.{Reading}
-use Rattle.limits.specs.declared.reading.Reading.TheVariants.{Missing, Value}
+use Rattle.limits.specs.Readings.{Reading}
+use Rattle.std.specs.Prelude.{None, Some}
 use Rattle.ladder.specs.declared.types.Row.{Row}
 use Rattle.ladder.specs.declared.types.Table.{Table}
 use Rattle.ladder.specs.Types.{row, rung_at, is_floor}
@@ -64,8 +64,8 @@ unfolding of_bits of_int round mul le
 prior_ends = (tt, tt)
 
 prior_in_lem : (a : Row) (margin off : Float) (snr : Reading) → RowIn a → In margins margin → In offsets off → T (ok_snr snr) → In priors (prior_of a margin off snr)
-prior_in_lem a margin off Missing h hm ho hs = prior_ends.1
-prior_in_lem a margin off (Value snr) h hm ho hs =
+prior_in_lem a margin off None h hm ho hs = prior_ends.1
+prior_in_lem a margin off (Some snr) h hm ho hs =
     product_in capacities shares priors (of_nat a.capacity) (chance_at a.threshold margin off snr)
     (counts 0 a.capacity 4096 (omega arith) h.capacity) (chance_in a.threshold margin off snr h.threshold hm ho hs) prior_ends.0
 
@@ -220,7 +220,7 @@ module _ (t : Table) (p : Prices) (s : State) (ts : TableIn t) (ps : TariffIn p.
         values = λ r. value_lies (value t p s r) (value_in r);
         lossless_rates = λ r. rate_lies (lossless t r) (lossless_in r);
         lossless_prices = λ r. value_lies (lossless_price t p r) (lossless_price_in r);
-        first_values = λ snr k r. value_lies (priced t p r (estimate_at t s r (Value snr))) (price_in r (estimate_at t s r (Value snr)) (estimate_at_in r (Value snr) k));
+        first_values = λ snr k r. value_lies (priced t p r (estimate_at t s r (Some snr))) (price_in r (estimate_at t s r (Some snr)) (estimate_at_in r (Some snr) k));
         value_over_value = λ r q. one_test (value t p s r) (value t p s q) (value_number (value t p s r) (value_in r)) (value_number (value t p s q) (value_in q));
         price_over_value = price_test;
         frames_over_two = frames_test;

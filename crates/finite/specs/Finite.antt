@@ -5,9 +5,9 @@ use Rattle.std.specs.Float.Ieee.{neg, le, lt}
 use Rattle.std.specs.Float.Ieee.Scale.{finite}
 use Rattle.float.specs.Numbers.{f64, within, f0, f1, f2, f5, f20}
 use Rattle.limits.specs.Values.{f200, f60, milli, ok_db}
-use Rattle.limits.specs.declared.refusal.Verdict.TheVariants.{Accepted}
-use Rattle.limits.specs.declared.reading.Reading.{Reading}
-use Rattle.limits.specs.declared.reading.Reading.TheVariants.{Missing, Value}
+use Rattle.std.specs.Prelude.{Ok, Err}
+use Rattle.limits.specs.Readings.{Reading}
+use Rattle.std.specs.Prelude.{None, Some}
 use Rattle.ladder.specs.declared.types.Table.{Table}
 use Rattle.ladder.specs.Tables.{prior_margin}
 use Rattle.ladder.specs.Types.{row, rung_at}
@@ -33,8 +33,8 @@ Lies lo hi x = T (finite x) × T (within lo hi x)
 
 -- a reading that is missing has no number
 abbrev pub LiesIn : Float → Float → Reading → Type 0
-LiesIn lo hi Missing = Unit
-LiesIn lo hi (Value x) = Lies lo hi x
+LiesIn lo hi None = Unit
+LiesIn lo hi (Some x) = Lies lo hi x
 
 -- ---- the bounds that no document states
 -- 73000.0, 1070.0 and 18.0: what an account tends to when every frame is its rung's own, with 4,096 bytes and 60 s, is just below these
@@ -108,7 +108,7 @@ pub record Compared (t : Table) (p : Prices) (s : State) : Type 0 where
   pub lossless_rates : (r : ℕ) → Lies f0 most_rate (lossless t r)
   pub lossless_prices : (r : ℕ) → Lies f0 most_value (lossless_price t p r)
   -- what `first_mode` and `seed` compare, at every SNR that they accept
-  pub first_values : (snr : Float) → T (ok_db snr) → (r : ℕ) → Lies f0 most_value (priced t p r (estimate_at t s r (Value snr)))
+  pub first_values : (snr : Float) → T (ok_db snr) → (r : ℕ) → Lies f0 most_value (priced t p r (estimate_at t s r (Some snr)))
   -- a value against a value, a lossless price against a value, and "over 2 decayed frames"; so the definitions' tests are the Rust's
   pub value_over_value : (r q : ℕ) → OneTest (value t p s r) (value t p s q)
   pub price_over_value : (r q : ℕ) → OneTest (lossless_price t p r) (value t p s q)
@@ -136,9 +136,9 @@ pub record Finite (k : RateController) : Type 0 where
   -- between the calls
   pub state : FiniteAt k.table k.prices k.state
   -- and inside an accepted call with frames: once its first n rungs are judged, and where `decide` is asked
-  pub judging : (fs : List Frame) (snr : Reading) (n : ℕ) → verdict k.table (Frames fs snr) ≡ Accepted
+  pub judging : (fs : List Frame) (snr : Reading) (n : ℕ) → verdict k.table (Frames fs snr) ≡ (Ok tt)
       → FiniteAt k.table k.prices (judge_above n 0 k.table k.prices fs (booked k.table (observe_snr k.state snr) fs))
-  pub deciding : (fs : List Frame) (snr : Reading) → verdict k.table (Frames fs snr) ≡ Accepted
+  pub deciding : (fs : List Frame) (snr : Reading) → verdict k.table (Frames fs snr) ≡ (Ok tt)
       → FiniteAt k.table k.prices (inside k.table k.prices k.state fs snr)
 
 -- of every controller that a list of calls leaves of a fresh one, refused calls included

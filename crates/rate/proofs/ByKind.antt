@@ -5,18 +5,18 @@ use lib.Ieee.{Float}
 use borrow.Author.Tests.{le-leb, lt-leb}
 use Rattle.limits.specs.Values.{ok_length, ok_burst}
 use Rattle.limits.specs.declared.refusal.Refusal.TheVariants.{OutsideLimits, TooManyBursts}
-use Rattle.limits.specs.declared.refusal.Verdict.TheVariants.{Refused}
+use Rattle.std.specs.Prelude.{Ok, Err}
 use Rattle.ladder.specs.Lists.{every}
 use Rattle.account.specs.declared.types.Tariff.{Tariff}
 use Rattle.rate.specs.Calls.{RateController, Price, verdict, accepted, repriced, refused, tariff_of, step}
 
 -- `ok` is what the test in the code answered
 module _ (k : RateController) {ok : Bool} (floor ordinary gap : Float) (bursts : List ℕ) (e : ok ≡ (ok_length floor && ok_length ordinary && ok_length gap && every ok_burst bursts)) where
-  pub price_outside : ok ≡ false → refused k (Refused OutsideLimits) ≡ step k (Price floor ordinary gap bursts)
+  pub price_outside : ok ≡ false → refused k (Err OutsideLimits) ≡ step k (Price floor ordinary gap bursts)
   unfolding step verdict
   price_outside q = rw (← e, q) refl
 
-  pub price_too_many : ok ≡ true → 32 < length bursts → refused k (Refused TooManyBursts) ≡ step k (Price floor ordinary gap bursts)
+  pub price_too_many : ok ≡ true → 32 < length bursts → refused k (Err TooManyBursts) ≡ step k (Price floor ordinary gap bursts)
   unfolding step verdict
   price_too_many q h = rw (← e, q, lt-leb (length bursts) 32 h) refl
 

@@ -4,7 +4,7 @@ use mathlib.Core.Path.{refl}
 use native.Mathlib.Omega.{arith}
 use native.Mathlib.Decide.{dec_lt}
 use borrow.Author.Tests.{lt-leb}
-use Rattle.limits.specs.declared.reading.Reading.{Reading}
+use Rattle.limits.specs.Readings.{Reading}
 use Rattle.ladder.specs.declared.types.Table.{Table}
 use Rattle.rules.specs.declared.types.Frame.{Frame}
 use Rattle.rules.specs.bridges.Check.{begin_check, check_all}

@@ -4,9 +4,9 @@ use Rattle.std.specs.Prelude.{Float}
 use Rattle.limits.specs.Values.{ok_db, ok_length, ok_burst}
 use Rattle.limits.specs.Refusals.{unless, or_else}
 use Rattle.limits.specs.declared.refusal.Refusal.TheVariants.{TooManyFrames, OutsideLimits, TooManyBursts}
-use Rattle.limits.specs.declared.refusal.Verdict.{Verdict}
-use Rattle.limits.specs.declared.refusal.Verdict.TheVariants.{Accepted, Refused}
-use Rattle.limits.specs.declared.reading.Reading.{Reading}
+use Rattle.limits.specs.Refusals.{Verdict}
+use Rattle.std.specs.Prelude.{Ok, Err}
+use Rattle.limits.specs.Readings.{Reading}
 use Rattle.ladder.specs.declared.types.Table.{Table}
 use Rattle.ladder.specs.Lists.{every, filled}
 use Rattle.limits.specs.Readings.{ok_snr, ok_echo}
@@ -44,12 +44,12 @@ pub data Call : Type 0 where
 unfoldable pub verdict : Table → Call → Verdict
 verdict t (Frames fs snr) = or_else (unless (nat_le (length fs) 256) TooManyFrames) (or_else (first_bad t fs) (unless (ok_snr snr) OutsideLimits))
 verdict t (Echo share snr) = unless (ok_echo share snr) OutsideLimits
-verdict t (Silence steps) = Accepted
+verdict t (Silence steps) = (Ok tt)
 verdict t (Snr snr) = unless (ok_snr snr) OutsideLimits
 verdict t (Seed snr) = unless (ok_db snr) OutsideLimits
 verdict t (Price floor ordinary gap bursts) =
     or_else (unless (ok_length floor && ok_length ordinary && ok_length gap && every ok_burst bursts) OutsideLimits) (unless (nat_le (length bursts) 32) TooManyBursts)
-verdict t (Family own other) = Accepted
+verdict t (Family own other) = (Ok tt)
 
 -- ---- what an accepted call leaves and returns
 abbrev pub with_state : RateController → State → RateController
@@ -62,13 +62,13 @@ with_prices k p = record { table = k.table; prices = p; state = k.state }
 abbrev pub done : RateController → State → Bool → Answer
 done k s begun = record {
   controller = with_state k s;
-  verdict = Accepted;
+  verdict = (Ok tt);
   ended = runs k.state.core.trying && (begun || not (runs s.core.trying));
   begun = begun;
 }
 
 abbrev pub repriced : RateController → Prices → Answer
-repriced k p = record { controller = with_prices k p; verdict = Accepted; ended = false; begun = false }
+repriced k p = record { controller = with_prices k p; verdict = (Ok tt); ended = false; begun = false }
 
 abbrev pub tariff_of : Float → Float → Float → List ℕ → Tariff
 tariff_of floor ordinary gap bursts =
@@ -88,8 +88,8 @@ abbrev pub refused : RateController → Verdict → Answer
 refused k v = record { controller = k; verdict = v; ended = false; begun = false }
 
 abbrev pub answered : RateController → Call → Verdict → Answer
-answered k c Accepted = accepted k c
-answered k c (Refused why) = refused k (Refused why)
+answered k c (Ok _) = accepted k c
+answered k c (Err why) = refused k (Err why)
 
 -- what a call leaves and returns: each public call promises this
 unfoldable pub step : RateController → Call → Answer
@@ -97,7 +97,7 @@ step k c = answered k c (verdict k.table c)
 
 -- the first `count` frames of an array of 256. "256 frames accepted, 257 gives 7": it is `step` of any list whose first 256 the array holds (proofs/Passes.antt)
 unfoldable pub held_frames : RateController → List Frame → ℕ → Reading → Answer
-held_frames k frames count snr = cond (nat_le count 256) (step k (Frames (take count frames) snr)) (refused k (Refused TooManyFrames))
+held_frames k frames count snr = cond (nat_le count 256) (step k (Frames (take count frames) snr)) (refused k (Err TooManyFrames))
 
 -- "The first call gets the fresh controller, each next one what the last left, and nothing else touches it."
 unfoldable pub after : RateController → List Call → RateController

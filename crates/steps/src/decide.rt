@@ -9,9 +9,9 @@ use crate::echo::is_out;
 use crate::judge::usable_above;
 use account::price::{lossless_price, value, wait_seconds};
 use account::state::PROBE_EVERY;
-use account::types::{Prices, State, Trying};
+use account::types::{Prices, State, Try};
 use ladder::types::{Place, Rung, Table};
-use rules::lowest::Best;
+use rules::lowest::Found;
 
 // ---- the best place
 // Whether a place on the front may be chosen: not out, and at or below the choice or with over 2 decayed frames.
@@ -23,10 +23,10 @@ fn is_candidate(t: &Table, s: &State, i: Place, r: Rung) -> bool
 }
 
 // The lowest of greatest value.
-fn choose_place(t: &Table, p: &Prices, s: &State) -> Best
+fn choose_place(t: &Table, p: &Prices, s: &State) -> Option<Found>
     ensures { result ≡ choose t.now p.now s.now }
 {
-    let mut best = Best::NoneYet;
+    let mut best = None;
     for i in 0..t.places() {
         let r = t.rung_at(Place(i));
         if is_candidate(t, s, Place(i), r) {
@@ -41,7 +41,7 @@ fn choose_place(t: &Table, p: &Prices, s: &State) -> Best
 fn is_due(t: &Table, p: &Prices, s: &State, r: Rung) -> bool
     ensures { result ≡ due t.now p.now s.now r.0 }
 {
-    s.time(r) >= wait_seconds(t, &p.tariff, s, r) - rules::tries::WAIT_TOLERANCE_S
+    s.time(r) >= wait_seconds(t, p, s, r) - rules::tries::WAIT_TOLERANCE_S
 }
 
 // Whether the rung above is tried without its wait.
@@ -51,7 +51,7 @@ fn is_clean_climb(t: &Table, p: &Prices, s: &State, up: Rung, v: f64) -> bool
     ensures { result ≡ clean_climb t.now p.now s.now up.0 }
 {
     let here = s.choice(t);
-    rules::tries::is_on(s.core.clean, here)
+    s.core.clean == Some(here)
         && rules::tries::same_family(t, up, here)
         && s.wait(up) == PROBE_EVERY
         && value(t, p, s, up) > v
@@ -77,17 +77,21 @@ fn decide_try(t: &Table, p: &Prices, s: &mut State, v: f64) -> bool
     ensures { decided s.new result ≡ decide_try t.now p.now s.old s.old.core.trying }
 {
     match s.core.trying {
-        Trying::Nothing => {
-            let Some(up) = rung_to_try(t, p, s, v) else {
+        None => {
+            let Some(rung) = rung_to_try(t, p, s, v) else {
                 return false;
             };
-            s.set_time(up, 0.0);
-            s.core.trying = Trying::Running(up, 0, 0);
+            s.set_time(rung, 0.0);
+            s.core.trying = Some(Try {
+                rung,
+                calls: 0,
+                frames: 0,
+            });
             true
         }
-        Trying::Running(r, _, _) => {
-            if usable_above(t, s) != Some(r) {
-                s.core.trying = Trying::Nothing;
+        Some(y) => {
+            if usable_above(t, s) != Some(y.rung) {
+                s.core.trying = None;
             }
             false
         }
@@ -99,14 +103,14 @@ pub(crate) fn decide(t: &Table, p: &Prices, s: &mut State) -> bool
     ensures { decided s.new result ≡ decide t.now p.now s.old }
 {
     match choose_place(t, p, s) {
-        Best::NoneYet => {
+        None => {
             s.core.place = Place(0);
-            s.core.trying = Trying::Nothing;
+            s.core.trying = None;
             false
         }
-        Best::Found(i, v) => {
-            s.core.place = i;
-            decide_try(t, p, s, v)
+        Some(found) => {
+            s.core.place = found.place;
+            decide_try(t, p, s, found.value)
         }
     }
 }

@@ -1,17 +1,16 @@
 // Document 01's section "Echo and silence", in place.
-ghost use Rattle.std.specs.Prelude.{◌≡◌, ◌&&◌, not};
+ghost use Rattle.std.specs.Prelude.{◌≡◌, ◌&&◌, not, None};
 ghost use Rattle.ladder.specs.Lists.{some_from};
 ghost use Rattle.ladder.specs.Types.{rung_at, places_of};
 ghost use Rattle.account.specs.Price.{value};
-ghost use Rattle.rules.specs.declared.lowest.Best.TheVariants.{NoneYet};
 ghost use Rattle.rules.specs.Echo.{out, usable, end_if_out, echoed, highest, observe_echo, silent, first_place, seed, observe_snr, ofdm_at, all_out, refuses};
 ghost use Rattle.rules.specs.Lowest.{improved, greatest};
 ghost use Rattle.steps.specs.bridges.First.{first_known};
 
-use account::types::{Prices, State, Trying};
+use account::types::{Prices, State};
 use ladder::types::{Place, Rung, Table};
 use limits::reading::Reading;
-use rules::lowest::Best;
+use rules::lowest::{Found, best_place};
 
 // ---- what the echo allows
 // Whether a rung is out.
@@ -30,7 +29,7 @@ pub(crate) fn is_usable(t: &Table, s: &State, i: Place) -> bool
 
 // ---- the lowest of greatest value
 // One place more, by value, if it is usable.
-fn improve(t: &Table, p: &Prices, s: &State, i: Place, best: Best) -> Best
+fn improve(t: &Table, p: &Prices, s: &State, i: Place, best: Option<Found>) -> Option<Found>
     ensures { result ≡ improved (usable t.now s.now) (λ j. value t.now p.now s.now (rung_at t.now j)) i.0 best }
 {
     if is_usable(t, s, i) {
@@ -41,10 +40,10 @@ fn improve(t: &Table, p: &Prices, s: &State, i: Place, best: Best) -> Best
 }
 
 // The best of the usable ones among the first n places. No place past 31 is usable, so the walk up ends there at the latest.
-fn best_among(t: &Table, p: &Prices, s: &State, n: u32) -> Best
-    ensures { result ≡ greatest n 0 (usable t.now s.now) (λ j. value t.now p.now s.now (rung_at t.now j)) NoneYet }
+fn best_among(t: &Table, p: &Prices, s: &State, n: u32) -> Option<Found>
+    ensures { result ≡ greatest n 0 (usable t.now s.now) (λ j. value t.now p.now s.now (rung_at t.now j)) None }
 {
-    let mut best = Best::NoneYet;
+    let mut best = None;
     for i in 0..n.min(32) {
         best = improve(t, p, s, Place(i), best);
     }
@@ -56,10 +55,8 @@ fn best_among(t: &Table, p: &Prices, s: &State, n: u32) -> Best
 fn end_if_out(t: &Table, s: &mut State)
     ensures { s.new ≡ end_if_out t.now s.old s.old.core.trying }
 {
-    if let Trying::Running(r, _, _) = s.core.trying {
-        if is_out(t, s, r) {
-            s.core.trying = Trying::Nothing;
-        }
+    if s.core.trying.is_some_and(|y| is_out(t, s, y.rung)) {
+        s.core.trying = None;
     }
 }
 
@@ -70,8 +67,7 @@ fn obey_echo(t: &Table, p: &Prices, s: &mut State)
     end_if_out(t, s);
     let here = s.choice(t);
     if is_out(t, s, here) {
-        let best = best_among(t, p, s, s.core.place.0);
-        s.core.place = Place(rules::lowest::best_place(best));
+        s.core.place = best_place(best_among(t, p, s, s.core.place.0));
     }
 }
 
@@ -80,7 +76,7 @@ fn obey_echo(t: &Table, p: &Prices, s: &mut State)
 pub fn observe_echo(t: &Table, p: &Prices, s: &mut State, share: Reading, snr: f64)
     ensures { s.new ≡ observe_echo t.now p.now s.old share snr }
 {
-    if let Reading::Value(x) = share {
+    if let Some(x) = share {
         if !(snr < -6.0) {
             s.core.echo = rules::echo::smooth_echo(s.core.echo, x);
             obey_echo(t, p, s);
@@ -109,14 +105,14 @@ pub fn silent(t: &Table, s: &mut State, steps: u32)
 {
     let top = s.core.place.0.saturating_sub(steps);
     s.core.place = Place(highest_from(t, s, top));
-    s.core.trying = Trying::Nothing;
+    s.core.trying = None;
 }
 
 // The place that a session starts at from the SNR that is known.
 fn first_known(t: &Table, p: &Prices, s: &State) -> Place
     ensures { result.0 ≡ first_known t.now p.now s.now }
 {
-    Place(rules::lowest::best_place(best_among(t, p, s, t.places())))
+    best_place(best_among(t, p, s, t.places()))
 }
 
 // The place that a session starts at from one reading.
@@ -125,7 +121,7 @@ pub fn first_place(t: &Table, p: &Prices, s: &State, snr: f64) -> Place
     ensures { result.0 ≡ first_place t.now p.now s.now snr }
 {
     let mut z = *s;
-    z.core.snr = Reading::Value(snr);
+    z.core.snr = Some(snr);
     first_known(t, p, &z)
 }
 
@@ -134,8 +130,8 @@ pub fn first_place(t: &Table, p: &Prices, s: &State, snr: f64) -> Place
 pub fn seed(t: &Table, p: &Prices, s: &mut State, snr: f64)
     ensures { s.new ≡ seed t.now p.now s.old snr }
 {
-    if let Reading::Missing = s.core.snr {
-        s.core.snr = Reading::Value(snr);
+    if s.core.snr.is_none() {
+        s.core.snr = Some(snr);
         s.core.place = first_known(t, p, s);
     }
 }

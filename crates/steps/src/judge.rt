@@ -1,7 +1,6 @@
 // Document 01's section "A transmission", in place: judging the rungs sent, and the running try.
 ghost use Rattle.std.specs.Prelude.{◌≡◌, suc, Option, Some, None, if◌then◌else◌};
 ghost use Rattle.ladder.specs.Types.{rung, places_of};
-ghost use Rattle.account.specs.declared.types.Trying.TheVariants.{Running};
 ghost use Rattle.rules.specs.Echo.{usable};
 ghost use Rattle.rules.specs.Tries.{better, judge_try, place_from, full_wait, end_try, counted, above};
 ghost use Rattle.rules.specs.bridges.Sets.{judge_one, judge_set};
@@ -9,7 +8,7 @@ ghost use Rattle.rules.specs.bridges.Sets.{judge_one, judge_set};
 use crate::echo::is_usable;
 use account::price::{value, wait_seconds};
 use account::state::PROBE_EVERY;
-use account::types::{Prices, State, Trying};
+use account::types::{Prices, State, Try};
 use ladder::types::{Place, Rung, Table};
 
 // ---- judging a rung
@@ -92,7 +91,7 @@ fn full_wait(t: &Table, p: &Prices, s: &mut State)
     ensures { s.new ≡ full_wait t.now p.now s.old }
 {
     if let Some(up) = usable_above(t, s) {
-        s.set_time(up, wait_seconds(t, &p.tariff, s, up));
+        s.set_time(up, wait_seconds(t, p, s, up));
     }
 }
 
@@ -113,13 +112,17 @@ fn end_try(t: &Table, p: &Prices, s: &mut State, r: Rung, frames: u64)
 pub(crate) fn count_try(t: &Table, p: &Prices, s: &mut State, n: u32)
     ensures { s.new ≡ counted t.now p.now n s.old s.old.core.trying }
 {
-    if let Trying::Running(r, calls, frames) = s.core.trying {
-        let all = frames as u64 + n as u64;
-        if rules::tries::is_over(all, calls) {
-            s.core.trying = Trying::Nothing;
-            end_try(t, p, s, r, all);
+    if let Some(y) = s.core.trying {
+        let frames = y.frames as u64 + n as u64;
+        if rules::tries::is_over(frames, y.calls) {
+            s.core.trying = None;
+            end_try(t, p, s, y.rung, frames);
         } else {
-            s.core.trying = Trying::Running(r, calls + 1, all as u32);
+            s.core.trying = Some(Try {
+                rung: y.rung,
+                calls: y.calls + 1,
+                frames: frames as u32,
+            });
         }
     }
 }

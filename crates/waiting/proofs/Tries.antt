@@ -7,12 +7,13 @@ use mathlib.Core.Logic.{◌⊎◌, inl, inr}
 use Prim.Native.Nat.{ℕ, suc, ◌+◌, ◌<◌, ◌≤◌}
 use native.Mathlib.Omega.{arith}
 use lib.Dec.{T}
-use Rattle.limits.specs.declared.refusal.Verdict.{Verdict}
+use Rattle.limits.specs.Refusals.{Verdict}
 use Rattle.ladder.specs.declared.types.Rung.{Rung}
-use Rattle.limits.specs.declared.reading.Reading.{Reading}
+use Rattle.limits.specs.Readings.{Reading}
 use Rattle.ladder.proofs.Cases.{or_here, or_there}
-use Rattle.account.specs.declared.types.Trying.{Trying}
-use Rattle.account.specs.declared.types.Trying.TheVariants.{Nothing, Running}
+use Rattle.account.specs.State.{Trying}
+use Rattle.std.specs.Prelude.{None, Some}
+use Rattle.account.specs.State.{try_of}
 use Rattle.account.specs.State.{runs}
 use Rattle.rules.specs.declared.types.Frame.{Frame}
 use Rattle.rules.specs.Tries.{Decided}
@@ -32,14 +33,14 @@ abbrev Onward : Rung → ℕ → Bool → Trying → Type 0
 Onward r calls ended y = T ended ⊎ Goes r calls y
 
 -- *ended*, of a try that was running
-marked : (y : Trying) (r : Rung) (calls frames : ℕ) → y ≡ Running r calls frames → (b : Bool) → T b → T (runs y && b)
+marked : (y : Trying) (r : Rung) (calls frames : ℕ) → y ≡ try_of r calls frames → (b : Bool) → T b → T (runs y && b)
 marked y r calls frames e b h = subst (λ (z : Trying). T (runs z && b)) (sym e) h
 
-rests_onward : (y z : Trying) (r : Rung) (calls frames : ℕ) → y ≡ Running r calls frames → calls < 6 → (z ≡ Nothing) ⊎ (z ≡ y) → Onward r calls (runs y && (false || not (runs z))) z
+rests_onward : (y z : Trying) (r : Rung) (calls frames : ℕ) → y ≡ try_of r calls frames → calls < 6 → (z ≡ None) ⊎ (z ≡ y) → Onward r calls (runs y && (false || not (runs z))) z
 rests_onward y z r calls frames e l (inl h) = inl (marked y r calls frames e (false || not (runs z)) (subst (λ (w : Trying). T (false || not (runs w))) (sym h) tt))
 rests_onward y z r calls frames e l (inr h) = inr (frames, h ∙ e, l)
 
-decided_onward : (y : Trying) (d : Decided) (r : Rung) (calls calls' frames : ℕ) → y ≡ Running r calls frames → Off d ⊎ Goes r calls' d.state.core.trying
+decided_onward : (y : Trying) (d : Decided) (r : Rung) (calls calls' frames : ℕ) → y ≡ try_of r calls frames → Off d ⊎ Goes r calls' d.state.core.trying
     → Onward r calls' (runs y && (d.begun || not (runs d.state.core.trying))) d.state.core.trying
 decided_onward y d r calls calls' frames e (inl h) = inl (marked y r calls frames e (d.begun || not (runs d.state.core.trying)) h)
 decided_onward y d r calls calls' frames e (inr h) = inr h
@@ -47,7 +48,7 @@ decided_onward y d r calls calls' frames e (inr h) = inr h
 abbrev counts : Bool → ℕ → ℕ
 counts b n = cond b (suc n) n
 
-accepted_onward : (k : RateController) (c : Call) (r : Rung) (calls frames : ℕ) → k.state.core.trying ≡ Running r calls frames → calls < 6
+accepted_onward : (k : RateController) (c : Call) (r : Rung) (calls frames : ℕ) → k.state.core.trying ≡ try_of r calls frames → calls < 6
     → Onward r (counts (carries (frames_of c)) calls) (accepted k c).ended (accepted k c).controller.state.core.trying
 unfolding accepted observe_frames silent
 accepted_onward k (Frames [] snr) r calls frames e l = inr (frames, e, l)
@@ -63,7 +64,7 @@ accepted_onward k (Seed snr) r calls frames e l =
 accepted_onward k (Price floor ordinary gap bursts) r calls frames e l = inr (frames, e, l)
 accepted_onward k (Family own other) r calls frames e l = inr (frames, e, l)
 
-step_onward : (k : RateController) (c : Call) (r : Rung) (calls frames : ℕ) → k.state.core.trying ≡ Running r calls frames → calls < 6
+step_onward : (k : RateController) (c : Call) (r : Rung) (calls frames : ℕ) → k.state.core.trying ≡ try_of r calls frames → calls < 6
     → Onward r (counts (frame_call k c) calls) (step k c).ended (step k c).controller.state.core.trying
 step_onward k c r calls frames e l =
     by_verdict k c (λ (a : Answer). Onward r (counts (taken a.verdict && carries (frames_of c)) calls) a.ended a.controller.state.core.trying)
@@ -71,7 +72,7 @@ step_onward k c r calls frames e l =
     (λ why. inr (frames, e, l))
 
 -- ---- a list of calls: as many frame calls as are left to the sixth end it
-lasts : (calls : List Call) (k : RateController) (r : Rung) (n frames : ℕ) → k.state.core.trying ≡ Running r n frames → n < 6 → 6 ≤ n + frame_calls k calls → T (some_ended k calls)
+lasts : (calls : List Call) (k : RateController) (r : Rung) (n frames : ℕ) → k.state.core.trying ≡ try_of r n frames → n < 6 → 6 ≤ n + frame_calls k calls → T (some_ended k calls)
 unfolding frame_calls some_ended
 lasts [] k r n frames e l h = absurd (omega arith)
 lasts (c ∷ cs) k r n frames e l h = go (λ (m f : ℕ). lasts cs next r m f) (step_onward k c r n frames e l)
@@ -80,7 +81,7 @@ lasts (c ∷ cs) k r n frames e l h = go (λ (m f : ℕ). lasts cs next r m f) (
     next = (step k c).controller
 
     Later : Type 0
-    Later = (m f : ℕ) → next.state.core.trying ≡ Running r m f → m < 6 → 6 ≤ m + frame_calls next cs → T (some_ended next cs)
+    Later = (m f : ℕ) → next.state.core.trying ≡ try_of r m f → m < 6 → 6 ≤ m + frame_calls next cs → T (some_ended next cs)
 
     counted : (b : Bool) → 6 ≤ n + cond b (suc (frame_calls next cs)) (frame_calls next cs) → 6 ≤ counts b n + frame_calls next cs
     counted true g = omega arith
@@ -91,7 +92,7 @@ lasts (c ∷ cs) k r n frames e l h = go (λ (m f : ℕ). lasts cs next r m f) (
     go later (inr q) = or_there (step k c).ended (some_ended next cs) (later (counts (frame_call k c) n) q.0 q.1 q.2 (counted (frame_call k c) h))
 
 -- a call that returns *begun* leaves a try that has counted none
-accepted_begun : (k : RateController) (c : Call) → T (accepted k c).begun → (r : Rung) × ((accepted k c).controller.state.core.trying ≡ Running r 0 0)
+accepted_begun : (k : RateController) (c : Call) → T (accepted k c).begun → (r : Rung) × ((accepted k c).controller.state.core.trying ≡ try_of r 0 0)
 unfolding accepted observe_frames
 accepted_begun k (Frames [] snr) h = absurd h
 accepted_begun k (Frames (f ∷ fs) snr) h = decide_begun k.table k.prices (inside k.table k.prices k.state (f ∷ fs) snr) h
@@ -102,8 +103,8 @@ accepted_begun k (Seed snr) h = absurd h
 accepted_begun k (Price floor ordinary gap bursts) h = absurd h
 accepted_begun k (Family own other) h = absurd h
 
-step_begun : (k : RateController) (c : Call) → T (step k c).begun → (r : Rung) × ((step k c).controller.state.core.trying ≡ Running r 0 0)
-step_begun k c = by_verdict k c (λ (a : Answer). T a.begun → (r : Rung) × (a.controller.state.core.trying ≡ Running r 0 0)) (λ e. accepted_begun k c) (λ why h. absurd h)
+step_begun : (k : RateController) (c : Call) → T (step k c).begun → (r : Rung) × ((step k c).controller.state.core.trying ≡ try_of r 0 0)
+step_begun k c = by_verdict k c (λ (a : Answer). T a.begun → (r : Rung) × (a.controller.state.core.trying ≡ try_of r 0 0)) (λ e. accepted_begun k c) (λ why h. absurd h)
 
 -- "A try has ended by the sixth later accepted call that carries frames."
 pub tries_end : (k : RateController) (c : Call) (later : List Call) → T (step k c).begun → 6 ≤ frame_calls (step k c).controller later → T (some_ended (step k c).controller later)
@@ -124,7 +125,7 @@ kept : (w : Bool) → w ≡ (false || w && not false)
 kept true = refl
 kept false = refl
 
-rests_run : (y z : Trying) → (z ≡ Nothing) ⊎ (z ≡ y) → T (runs z) → T (runs y)
+rests_run : (y z : Trying) → (z ≡ None) ⊎ (z ≡ y) → T (runs z) → T (runs y)
 rests_run y z (inl e) h = absurd (subst (λ (x : Trying). T (runs x)) e h)
 rests_run y z (inr e) h = subst (λ (x : Trying). T (runs x)) e h
 
@@ -138,13 +139,13 @@ module _ (k : RateController) (fs : List Frame) (snr : Reading) where
       subst (λ (y : Trying). T (runs y)) (sym q.1) tt
 
   begun_or_ran : (y : Trying) → k.state.core.trying ≡ y → T (runs decided.state.core.trying) → T (decided.begun || runs y)
-  begun_or_ran Nothing e h = or_here decided.begun false (go decided.begun (runs decided.state.core.trying) (frames_idle k.table k.prices k.state fs snr e) h)
+  begun_or_ran None e h = or_here decided.begun false (go decided.begun (runs decided.state.core.trying) (frames_idle k.table k.prices k.state fs snr e) h)
     where
       go : (a b : Bool) → T (a || not b) → T b → T a
       go true b g h = tt
       go false true g h = g
       go false false g h = h
-  begun_or_ran (Running r calls frames) e h = or_there decided.begun true tt
+  begun_or_ran (Some y) e h = or_there decided.begun true tt
 
 accepted_tells : (k : RateController) (c : Call) → runs (accepted k c).controller.state.core.trying ≡ ((accepted k c).begun || runs k.state.core.trying && not (accepted k c).ended)
 unfolding accepted observe_frames silent

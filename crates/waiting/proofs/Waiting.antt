@@ -14,9 +14,9 @@ use Rattle.float.specs.Numbers.{◌⊕◌, f0}
 use Rattle.float.specs.Sum.{total}
 use Rattle.float.proofs.Monotone.{natural}
 use Rattle.float.proofs.Sum.{Naturals}
-use Rattle.limits.specs.declared.refusal.Verdict.{Verdict}
-use Rattle.limits.specs.declared.refusal.Verdict.TheVariants.{Accepted}
-use Rattle.limits.specs.declared.reading.Reading.{Reading}
+use Rattle.limits.specs.Refusals.{Verdict}
+use Rattle.std.specs.Prelude.{Ok, Err}
+use Rattle.limits.specs.Readings.{Reading}
 use Rattle.ladder.specs.declared.types.Table.{Table}
 use Rattle.ladder.specs.Types.{rung_at, rungs_of, places_of}
 use Rattle.ladder.proofs.Cases.{yes_of}
@@ -73,14 +73,14 @@ same_table k c = by_verdict k c (λ (a : Answer). a.controller.table ≡ k.table
 
 -- a frame call carries a first frame, and was accepted
 data Carried (k : RateController) : Call → Type 0 where
-  carried : (f : Frame) (fs : List Frame) (snr : Reading) → verdict k.table (Frames (f ∷ fs) snr) ≡ Accepted → Carried k (Frames (f ∷ fs) snr)
+  carried : (f : Frame) (fs : List Frame) (snr : Reading) → verdict k.table (Frames (f ∷ fs) snr) ≡ (Ok tt) → Carried k (Frames (f ∷ fs) snr)
 
 was_carried : (k : RateController) (c : Call) → T (frame_call k c) → Carried k c
 was_carried k c =
     by_verdict k c (λ (a : Answer). T (taken a.verdict && carries (frames_of c)) → Carried k c)
     (λ v h. go c v (subst (λ (w : Verdict). T (taken w && carries (frames_of c))) (accepted_says k c) h)) (λ why h. absurd h)
   where
-    go : (c : Call) → verdict k.table c ≡ Accepted → T (carries (frames_of c)) → Carried k c
+    go : (c : Call) → verdict k.table c ≡ (Ok tt) → T (carries (frames_of c)) → Carried k c
     go (Frames [] snr) v h = absurd h
     go (Frames (f ∷ fs) snr) v h = carried f fs snr v
     go (Echo share snr) v h = absurd h
@@ -105,7 +105,7 @@ there k s j h =
     (a, b, omega arith)
 
 module _ (k : RateController) (s : Sound k) (i : ℕ) (p : Tariff) (here : Quiet i p k) where
-  accepted_rises : (f : Frame) (fs : List Frame) (snr : Reading) → let c = Frames (f ∷ fs) snr in verdict k.table c ≡ Accepted → Outbid i k c → Quiet i p (accepted k c).controller
+  accepted_rises : (f : Frame) (fs : List Frame) (snr : Reading) → let c = Frames (f ∷ fs) snr in verdict k.table c ≡ (Ok tt) → Outbid i k c → Quiet i p (accepted k c).controller
       → Rises (rung_at k.table (suc i)) k (call_air (f ∷ fs)) (accepted k c).controller.state
   unfolding accepted observe_frames wait_seconds
   accepted_rises f fs snr e o next =

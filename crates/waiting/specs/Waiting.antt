@@ -4,13 +4,13 @@ use Rattle.std.specs.Prelude.{◌≡◌, Bool, true, false, not, ◌&&◌, ◌||
 use Rattle.std.specs.Float.Ieee.{lt}
 use Rattle.float.specs.Numbers.{f64, ◌⊖◌, ◌⊗◌, f0}
 use Rattle.float.specs.Sum.{total}
-use Rattle.limits.specs.declared.refusal.Verdict.{Verdict}
-use Rattle.limits.specs.declared.refusal.Verdict.TheVariants.{Accepted, Refused}
-use Rattle.limits.specs.declared.reading.Reading.{Reading}
-use Rattle.limits.specs.declared.reading.Reading.TheVariants.{Missing}
+use Rattle.limits.specs.Refusals.{Verdict}
+use Rattle.std.specs.Prelude.{Ok, Err}
+use Rattle.limits.specs.Readings.{Reading}
+use Rattle.std.specs.Prelude.{None, Some}
 use Rattle.ladder.specs.Types.{rung_at}
 use Rattle.ladder.specs.Tables.{Columns, table_verdict, table_of, for_air}
-use Rattle.account.specs.declared.types.Trying.TheVariants.{Nothing}
+use Rattle.account.specs.State.{try_of}
 use Rattle.account.specs.declared.types.Tariff.{Tariff}
 use Rattle.account.specs.declared.types.State.{State}
 use Rattle.account.specs.State.{runs}
@@ -25,12 +25,12 @@ use Rattle.rate.specs.Calls.{Call, Frames, Echo, Silence, Snr, Seed, Price, Fami
 
 -- "every fresh controller": of any columns that `for_table` does not refuse, with or without `for_air(true)`
 pub data Fresh : RateController → Type 0 where
-  fresh : (c : Columns) (wide : Bool) → table_verdict c ≡ Accepted → Fresh (fresh_controller (for_air (table_of c) wide))
+  fresh : (c : Columns) (wide : Bool) → table_verdict c ≡ (Ok tt) → Fresh (fresh_controller (for_air (table_of c) wide))
 
 -- ---- frame calls: "accepted call that carries frames, and frame call means such a call"
 abbrev pub taken : Verdict → Bool
-taken Accepted = true
-taken (Refused why) = false
+taken (Ok _) = true
+taken (Err why) = false
 
 -- the frames that a call carries, and the SNR that comes with them
 abbrev pub frames_of : Call → List Frame
@@ -44,12 +44,12 @@ frames_of (Family own other) = []
 
 abbrev pub snr_of : Call → Reading
 snr_of (Frames fs snr) = snr
-snr_of (Echo share snr) = Missing
-snr_of (Silence steps) = Missing
-snr_of (Snr snr) = Missing
-snr_of (Seed snr) = Missing
-snr_of (Price floor ordinary gap bursts) = Missing
-snr_of (Family own other) = Missing
+snr_of (Echo share snr) = None
+snr_of (Silence steps) = None
+snr_of (Snr snr) = None
+snr_of (Seed snr) = None
+snr_of (Price floor ordinary gap bursts) = None
+snr_of (Family own other) = None
 
 abbrev pub carries : List Frame → Bool
 carries [] = false
@@ -100,7 +100,7 @@ pub record Quiet (i : ℕ) (p : Tariff) (k : RateController) : Type 0 where
   -- "and prices stay"
   pub prices_stay : k.prices.tariff ≡ p
   -- "no try is running"; `marks_tell`, below, ties this to the marks
-  pub no_try : k.state.core.trying ≡ Nothing
+  pub no_try : k.state.core.trying ≡ None
   -- "echo allows the choice"; "echo allows a rung that exists and is not out"
   pub choice_allowed : T (usable k.table k.state i)
   -- "and the rung above"

@@ -4,12 +4,12 @@ use Rattle.std.specs.Prelude.{Bool, false, not, ◌&&◌, ◌||◌, nat_le}
 use Rattle.limits.specs.Refusals.{unless, or_else}
 use Rattle.limits.specs.declared.refusal.Refusal.{Refusal}
 use Rattle.limits.specs.declared.refusal.Refusal.TheVariants.{TooManyFrames, OutsideLimits}
-use Rattle.limits.specs.declared.refusal.Verdict.{Verdict}
-use Rattle.limits.specs.declared.refusal.Verdict.TheVariants.{Accepted, Refused}
-use Rattle.limits.specs.declared.reading.Reading.{Reading}
+use Rattle.limits.specs.Refusals.{Verdict}
+use Rattle.std.specs.Prelude.{Ok, Err}
+use Rattle.limits.specs.Readings.{Reading}
 use Rattle.limits.specs.Readings.{ok_snr}
 use Rattle.account.specs.declared.types.State.{State}
-use Rattle.account.specs.declared.types.Trying.{Trying}
+use Rattle.account.specs.State.{Trying}
 use Rattle.account.specs.State.{runs}
 use Rattle.rules.specs.declared.check.Check.{Check}
 use Rattle.rate.specs.Calls.{RateController, Answer}
@@ -21,10 +21,10 @@ answer_of k o = record { controller = k; verdict = o.verdict; ended = o.ended; b
 
 -- accepted: the marks by the try that ran before and the state that is left
 abbrev pub done_reply : Trying → State → Bool → Reply
-done_reply before s begun = record { verdict = Accepted; ended = runs before && (begun || not (runs s.core.trying)); begun = begun }
+done_reply before s begun = record { verdict = (Ok tt); ended = runs before && (begun || not (runs s.core.trying)); begun = begun }
 
 abbrev pub refused_reply : Refusal → Reply
-refused_reply why = record { verdict = Refused why; ended = false; begun = false }
+refused_reply why = record { verdict = Err why; ended = false; begun = false }
 
 -- "7 first, then the first bad frame (6 before 8), then the SNR"
 unfoldable pub frames_verdict : Check → Reading → Verdict

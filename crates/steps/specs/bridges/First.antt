@@ -6,8 +6,8 @@ use Rattle.account.specs.declared.types.Prices.{Prices}
 use Rattle.account.specs.declared.types.State.{State}
 use Rattle.account.specs.Price.{value}
 use Rattle.rules.specs.Echo.{usable}
-use Rattle.rules.specs.declared.lowest.Best.TheVariants.{NoneYet}
+use Rattle.std.specs.Prelude.{None}
 use Rattle.rules.specs.Lowest.{greatest, best_place}
 
 abbrev pub first_known : Table → Prices → State → ℕ
-first_known t p s = best_place (greatest (places_of t) 0 (usable t s) (λ i. value t p s (rung_at t i)) NoneYet)
+first_known t p s = best_place (greatest (places_of t) 0 (usable t s) (λ i. value t p s (rung_at t i)) None)

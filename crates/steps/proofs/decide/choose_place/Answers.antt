@@ -3,8 +3,9 @@ use Rattle.std.proofs.Common.{arith, ◌≡◌, ◌<◌, ℕ, Bool, true, false,
 use mathlib.Core.Path.{refl, ◌∙◌}
 use Rattle.std.specs.Prelude.{Float}
 use Rattle.ladder.specs.Types.{place, places_of}
-use Rattle.rules.specs.declared.lowest.Best.{Best}
-use Rattle.rules.specs.declared.lowest.Best.TheVariants.{NoneYet, Found}
+use Rattle.rules.specs.Lowest.{Best}
+use Rattle.std.specs.Prelude.{None}
+use Rattle.rules.specs.Lowest.{found}
 use Rattle.rules.specs.Lowest.{beats, improved}
 use Rattle.rules.specs.Tries.{candidate, choose}
 use Rattle.rules.proofs.Greatest.{worth, start, turn, done}
@@ -12,7 +13,7 @@ use Rattle.steps.proofs.decide.choose_place.Goals as goal
 use Rattle.steps.proofs.decide.choose_place.Goals.{then-is_candidate, else-is_candidate}
 
 module _ (A : ℕ → Bool) (W : ℕ → Float) (i : ℕ) (b z : Best) where
-  allowed : (a : Bool) (v : Float) → a ≡ A i → a ≡ true → v ≡ W i → z ≡ cond (beats v b) (Found (place i) v) b → z ≡ improved A W i b
+  allowed : (a : Bool) (v : Float) → a ≡ A i → a ≡ true → v ≡ W i → z ≡ cond (beats v b) (found (place i) v) b → z ≡ improved A W i b
   allowed a v e f g h = rw (h, g, ← e, f) refl
 
   skipped : (a : Bool) → a ≡ A i → a ≡ false → z ≡ b → z ≡ improved A W i b
@@ -20,7 +21,7 @@ module _ (A : ℕ → Bool) (W : ℕ → Float) (i : ℕ) (b z : Best) where
 
 pub loop-i-init : goal.loop-i-init
 unfolding choose
-loop-i-init c = let a = c.args in start (candidate a.t.now a.s.now) (worth a.t.now a.p.now a.s.now) (places_of a.t.now) NoneYet
+loop-i-init c = let a = c.args in start (candidate a.t.now a.s.now) (worth a.t.now a.p.now a.s.now) (places_of a.t.now) None
 
 pub loop-i-preserved : goal.loop-i-preserved
 loop-i-preserved c =

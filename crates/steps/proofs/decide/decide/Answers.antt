@@ -5,12 +5,12 @@ use Rattle.steps.proofs.Decided.{chosen}
 use Rattle.steps.proofs.decide.decide.Goals as goal
 
 pub decide_try-requires : goal.decide_try-requires
-decide_try-requires c = chosen c.args.t.now c.args.p.now c.args.s.now c.in-Found.i c.in-Found.v (sym c.choose_place.ensures ∙ c.in-Found.is)
+decide_try-requires c = chosen c.args.t.now c.args.p.now c.args.s.now c.in-Some.found.place c.in-Some.found.value (sym c.choose_place.ensures ∙ c.in-Some.is)
 
-pub returns-in-NoneYet : goal.returns-in-NoneYet
+pub returns-in-None : goal.returns-in-None
 unfolding decide
-returns-in-NoneYet c = ap (decide_at c.args.t.now c.args.p.now c.args.s.now) (sym c.in-NoneYet.is ∙ c.choose_place.ensures)
+returns-in-None c = ap (decide_at c.args.t.now c.args.p.now c.args.s.now) (sym c.in-None.is ∙ c.choose_place.ensures)
 
-pub returns-in-Found : goal.returns-in-Found
+pub returns-in-Some : goal.returns-in-Some
 unfolding decide
-returns-in-Found c = c.decide_try.ensures ∙ ap (decide_at c.args.t.now c.args.p.now c.args.s.now) (sym c.in-Found.is ∙ c.choose_place.ensures)
+returns-in-Some c = c.decide_try.ensures ∙ ap (decide_at c.args.t.now c.args.p.now c.args.s.now) (sym c.in-Some.is ∙ c.choose_place.ensures)
