@@ -1,5 +1,4 @@
 pub mod Stepping
-pub mod ByKind
 mod Bursts
 mod Passes
 mod Transmitted

@@ -1,5 +1,5 @@
 -- The seven kinds of call that change a controller, which are refused (6 to 9), what each leaves and returns, and what a list of them leaves. Definitions only.
-use Rattle.std.specs.Prelude.{ℕ, Bool, true, false, cond, not, ◌&&◌, ◌||◌, List, [], ◌∷◌, length, take, nat_le}
+use Rattle.std.specs.Prelude.{ℕ, Bool, false, not, ◌&&◌, ◌||◌, List, [], ◌∷◌, length, nat_le}
 use Rattle.std.specs.Prelude.{Float}
 use Rattle.limits.specs.Values.{ok_db, ok_length, ok_burst}
 use Rattle.limits.specs.Refusals.{unless, or_else}
@@ -10,7 +10,7 @@ use Rattle.limits.specs.Readings.{Reading}
 use Rattle.ladder.specs.declared.types.Table.{Table}
 use Rattle.ladder.specs.Lists.{every, filled}
 use Rattle.limits.specs.Readings.{ok_snr, ok_echo}
-use Rattle.account.specs.declared.types.Families.TheVariants.{Set}
+use Rattle.std.specs.Prelude.{Some}
 use Rattle.account.specs.declared.types.Tariff.{Tariff}
 use Rattle.account.specs.declared.types.Prices.{Prices}
 use Rattle.account.specs.declared.types.State.{State}
@@ -53,26 +53,26 @@ verdict t (Family own other) = (Ok tt)
 
 -- ---- what an accepted call leaves and returns
 abbrev pub with_state : RateController → State → RateController
-with_state k s = record { table = k.table; prices = k.prices; state = s }
+with_state k s = record k { state = s }
 
 abbrev pub with_prices : RateController → Prices → RateController
-with_prices k p = record { table = k.table; prices = p; state = k.state }
+with_prices k p = record k { prices = p }
 
 -- "Added: each call returns marks *ended* (a running try was ended) and *begun*.": one ran before, and it does not run on: none runs, or another was begun
 abbrev pub done : RateController → State → Bool → Answer
 done k s begun = record {
   controller = with_state k s;
-  verdict = (Ok tt);
+  verdict = Ok tt;
   ended = runs k.state.core.trying && (begun || not (runs s.core.trying));
   begun = begun;
 }
 
 abbrev pub repriced : RateController → Prices → Answer
-repriced k p = record { controller = with_prices k p; verdict = (Ok tt); ended = false; begun = false }
+repriced k p = record { controller = with_prices k p; verdict = Ok tt; ended = false; begun = false }
 
 abbrev pub tariff_of : Float → Float → Float → List ℕ → Tariff
 tariff_of floor ordinary gap bursts =
-    record { given = true; floor = floor; ordinary = ordinary; gap = gap; bursts = filled 0 bursts; counted = length bursts }
+    record { floor = floor; ordinary = ordinary; gap = gap; bursts = filled 0 bursts; counted = length bursts }
 
 unfoldable pub accepted : RateController → Call → Answer
 accepted k (Frames fs snr) = let d = observe_frames k.table k.prices k.state fs snr in done k d.state d.begun
@@ -80,8 +80,8 @@ accepted k (Echo share snr) = done k (observe_echo k.table k.prices k.state shar
 accepted k (Silence steps) = done k (silent k.table k.state steps) false
 accepted k (Snr snr) = done k (observe_snr k.state snr) false
 accepted k (Seed snr) = done k (seed k.table k.prices k.state snr) false
-accepted k (Price floor ordinary gap bursts) = repriced k (record { tariff = tariff_of floor ordinary gap bursts; families = k.prices.families })
-accepted k (Family own other) = repriced k (record { tariff = k.prices.tariff; families = Set own other })
+accepted k (Price floor ordinary gap bursts) = repriced k (record k.prices { tariff = Some (tariff_of floor ordinary gap bursts) })
+accepted k (Family own other) = repriced k (record k.prices { families = Some (record { own_floor = own; other_floor = other }) })
 
 -- "Left as it was: controller": a refused call changes nothing, ends no try and begins none
 abbrev pub refused : RateController → Verdict → Answer
@@ -94,10 +94,6 @@ answered k c (Err why) = refused k (Err why)
 -- what a call leaves and returns: each public call promises this
 unfoldable pub step : RateController → Call → Answer
 step k c = answered k c (verdict k.table c)
-
--- the first `count` frames of an array of 256. "256 frames accepted, 257 gives 7": it is `step` of any list whose first 256 the array holds (proofs/Passes.antt)
-unfoldable pub held_frames : RateController → List Frame → ℕ → Reading → Answer
-held_frames k frames count snr = cond (nat_le count 256) (step k (Frames (take count frames) snr)) (refused k (Err TooManyFrames))
 
 -- "The first call gets the fresh controller, each next one what the last left, and nothing else touches it."
 unfoldable pub after : RateController → List Call → RateController

@@ -10,14 +10,15 @@ use rules::accounts::Fades;
 use rules::types::Frame;
 
 // A controller as a call left it, with what the call said.
-fn answer(k: RateController, o: Reply) -> Answer
-    ensures { result ≡ answer_of k o }
+fn answer(k: RateController, said: Reply) -> Answer
+    ensures { result ≡ answer_of k said }
 {
+    let marks = said.unwrap_or(moves::UNMARKED);
     Answer {
         controller: k,
-        verdict: o.verdict,
-        ended: o.ended,
-        begun: o.begun,
+        verdict: said.map(|_| ()),
+        ended: marks.ended,
+        begun: marks.begun,
     }
 }
 
@@ -27,8 +28,8 @@ impl RateController {
         ensures { result ≡ step self (Snr snr) }
     {
         let mut k = self;
-        let o = moves::observe_snr(&mut k, snr);
-        answer(k, o)
+        let said = moves::observe_snr(&mut k, snr);
+        answer(k, said)
     }
 
     // A burst's counts: only its SNR is read. Refused: 8.
@@ -43,8 +44,8 @@ impl RateController {
         ensures { result ≡ step self (Silence steps) }
     {
         let mut k = self;
-        let o = moves::silent(&mut k, steps);
-        answer(k, o)
+        let said = moves::silent(&mut k, steps);
+        answer(k, said)
     }
 
     // Starts from the connect frame's reading, before any SNR is known. Refused: 8.
@@ -52,8 +53,8 @@ impl RateController {
         ensures { result ≡ step self (Seed snr_db) }
     {
         let mut k = self;
-        let o = moves::seed(&mut k, snr_db);
-        answer(k, o)
+        let said = moves::seed(&mut k, snr_db);
+        answer(k, said)
     }
 
     // A frame's echo reading: a try of a rung that it rules out ends, and so does a choice. Refused: 8.
@@ -61,8 +62,8 @@ impl RateController {
         ensures { result ≡ step self (Echo share snr_db) }
     {
         let mut k = self;
-        let o = moves::observe_echo(&mut k, share, snr_db);
-        answer(k, o)
+        let said = moves::observe_echo(&mut k, share, snr_db);
+        answer(k, said)
     }
 
     // The frames of one transmission, and its SNR reading. Refused: 6, 7, 8.
@@ -71,8 +72,8 @@ impl RateController {
     {
         let mut k = self;
         let mut fades = Fades::none();
-        let o = moves::observe_frames(&mut k, &mut fades, frames, snr);
-        answer(k, o)
+        let said = moves::observe_frames(&mut k, &mut fades, frames, snr);
+        answer(k, said)
     }
 
     // A transmission of one frame, for a caller that holds it by itself. Refused: 6, 8.
@@ -87,8 +88,8 @@ impl RateController {
         ensures { result ≡ step self (Family own_floor other_floor) }
     {
         let mut k = self;
-        let o = moves::set_families(&mut k, own_floor, other_floor);
-        answer(k, o)
+        let said = moves::set_families(&mut k, own_floor, other_floor);
+        answer(k, said)
     }
 
     // Ranks the rungs per second of a whole exchange. Refused: 8, then 9.
@@ -102,13 +103,13 @@ impl RateController {
         ensures { result ≡ step self (Price control_floor_s control_ordinary_s gap_s burst_frames.now) }
     {
         let mut k = self;
-        let o = moves::price_exchanges(
+        let said = moves::price_exchanges(
             &mut k,
             control_floor_s,
             control_ordinary_s,
             gap_s,
             burst_frames,
         );
-        answer(k, o)
+        answer(k, said)
     }
 }

@@ -1,18 +1,16 @@
 // The calls that change a controller, in place. Each promises `step` of specs/Calls.antt, which the waiting theorem speaks of.
-ghost use Rattle.std.specs.Prelude.{◌≡◌, ◌≤◌, ◌&&◌, false, length};
+ghost use Rattle.std.specs.Prelude.{◌≡◌, ◌≤◌, ◌&&◌, length};
 ghost use Rattle.limits.specs.Refusals.{unless};
-ghost use Rattle.limits.specs.Readings.{ok_snr};
 ghost use Rattle.limits.specs.Values.{ok_length, ok_burst};
 ghost use Rattle.limits.specs.declared.refusal.Refusal.TheVariants.{OutsideLimits};
-ghost use Rattle.limits.specs.declared.refusal.Verdict.TheVariants.{Accepted};
 ghost use Rattle.ladder.specs.Lists.{every, filled};
 ghost use Rattle.rules.specs.bridges.Pass.{Kept};
 ghost use Rattle.rate.specs.Calls.{accepted, step, Snr, Silence, Seed, Echo, Family, Frames, Price, tariff_of};
-ghost use Rattle.rate.specs.bridges.Replies.{answer_of, done_reply, refused_reply, frames_verdict};
+ghost use Rattle.rate.specs.bridges.Replies.{answer_of, done_reply, frames_verdict};
 
-use crate::types::{RateController, Reply};
+use crate::types::{RateController, Reply, TryMarks};
 use account::state::was_ended;
-use account::types::{Families, State, Tariff, Trying};
+use account::types::{Families, State, Tariff, Try};
 use limits::reading::Reading;
 use limits::refusal::{Refusal, Verdict};
 use rules::accounts::Fades;
@@ -27,36 +25,26 @@ const MOST_BURSTS: usize = 32;
 
 // ---- what a call says
 // Accepted: the marks say what became of the try that ran before.
-fn done(before: Trying, s: &State, begun: bool) -> Reply
+fn done(before: Option<Try>, s: &State, begun: bool) -> Reply
     ensures { result ≡ done_reply before s.now begun }
 {
-    Reply {
-        verdict: Verdict::Accepted,
+    Ok(TryMarks {
         ended: was_ended(before, s.core.trying, begun),
         begun,
-    }
+    })
 }
 
-// Refused: nothing is moved.
-pub fn refused(why: Refusal) -> Reply
-    ensures { result ≡ refused_reply why }
-{
-    Reply {
-        verdict: Verdict::Refused(why),
-        ended: false,
-        begun: false,
-    }
-}
+// No try was touched.
+pub const UNMARKED: TryMarks = TryMarks {
+    ended: false,
+    begun: false,
+};
 
-// Accepted, and no try was touched.
-fn unmarked() -> Reply
-    ensures { result ≡ record { verdict = Accepted; ended = false; begun = false } }
+// A value that is outside its limits is refused: 8.
+fn within(ok: bool) -> Verdict
+    ensures { result ≡ unless ok OutsideLimits }
 {
-    Reply {
-        verdict: Verdict::Accepted,
-        ended: false,
-        begun: false,
-    }
+    ok.then_some(()).ok_or(Refusal::OutsideLimits)
 }
 
 // ---- readings and silence
@@ -65,9 +53,7 @@ fn unmarked() -> Reply
 pub fn observe_snr(k: &mut RateController, snr: Reading) -> Reply
     ensures { answer_of k.new result ≡ step k.old (Snr snr) }
 {
-    if !limits::reading::ok_snr(snr) {
-        return refused(Refusal::OutsideLimits);
-    }
+    within(limits::reading::ok_snr(snr))?;
     let before = k.state.core.trying;
     steps::echo::observe_snr(&mut k.state, snr);
     done(before, &k.state, false)
@@ -88,9 +74,7 @@ pub fn silent(k: &mut RateController, steps: u32) -> Reply
 pub fn seed(k: &mut RateController, snr_db: f64) -> Reply
     ensures { answer_of k.new result ≡ step k.old (Seed snr_db) }
 {
-    if !limits::values::ok_db(snr_db) {
-        return refused(Refusal::OutsideLimits);
-    }
+    within(limits::values::ok_db(snr_db))?;
     let before = k.state.core.trying;
     steps::echo::seed(&k.table, &k.prices, &mut k.state, snr_db);
     done(before, &k.state, false)
@@ -101,35 +85,23 @@ pub fn seed(k: &mut RateController, snr_db: f64) -> Reply
 pub fn observe_echo(k: &mut RateController, share: Reading, snr_db: f64) -> Reply
     ensures { answer_of k.new result ≡ step k.old (Echo share snr_db) }
 {
-    if !limits::reading::ok_echo(share, snr_db) {
-        return refused(Refusal::OutsideLimits);
-    }
+    within(limits::reading::ok_echo(share, snr_db))?;
     let before = k.state.core.trying;
     steps::echo::observe_echo(&k.table, &k.prices, &mut k.state, share, snr_db);
     done(before, &k.state, false)
 }
 
 // ---- frames
-// An SNR reading. Refused: 8.
-fn snr_verdict(snr: Reading) -> Verdict
-    ensures { result ≡ unless (ok_snr snr) OutsideLimits }
-{
-    if limits::reading::ok_snr(snr) {
-        Verdict::Accepted
-    } else {
-        Verdict::Refused(Refusal::OutsideLimits)
-    }
-}
-
 // The whole call: 7 first, then the first bad frame, then the SNR.
 #[tactic(auto, unfolding(crate::specs::bridges::Replies::frames_verdict))]
 fn frames_verdict(v: Check, snr: Reading) -> Verdict
     ensures { result ≡ frames_verdict v snr }
 {
     if v.count > MOST_FRAMES {
-        return Verdict::Refused(Refusal::TooManyFrames);
+        return Err(Refusal::TooManyFrames);
     }
-    limits::refusal::or_else(v.verdict, snr_verdict(snr))
+    v.verdict?;
+    within(limits::reading::ok_snr(snr))
 }
 
 // Accepted: of an empty list only the SNR is taken. `fades` are the ageing factors of the last frame before.
@@ -160,10 +132,8 @@ pub fn observe_frames(
     ensures answer { answer_of k.new result ≡ step k.old (Frames frames.now snr) }
     ensures kept { Kept k.old.table fades.new }
 {
-    match frames_verdict(check_frames(&k.table, frames), snr) {
-        Verdict::Accepted => accept_frames(k, fades, frames, snr),
-        Verdict::Refused(why) => refused(why),
-    }
+    frames_verdict(check_frames(&k.table, frames), snr)?;
+    accept_frames(k, fades, frames, snr)
 }
 
 // ---- prices and families
@@ -172,8 +142,11 @@ pub fn observe_frames(
 pub fn set_families(k: &mut RateController, own_floor: bool, other_floor: bool) -> Reply
     ensures { answer_of k.new result ≡ step k.old (Family own_floor other_floor) }
 {
-    k.prices.families = Families::Set(own_floor, other_floor);
-    unmarked()
+    k.prices.families = Some(Families {
+        own_floor,
+        other_floor,
+    });
+    Ok(UNMARKED)
 }
 
 // Whether the two control lengths and the gap are within their limits.
@@ -215,7 +188,6 @@ fn tariff_of(floor: f64, ordinary: f64, gap: f64, bursts: &[u32]) -> Tariff
     ensures { result ≡ tariff_of floor ordinary gap bursts.now }
 {
     Tariff {
-        given: true,
         floor,
         ordinary,
         gap,
@@ -235,12 +207,11 @@ pub fn price_exchanges(
 ) -> Reply
     ensures { answer_of k.new result ≡ step k.old (Price control_floor_s control_ordinary_s gap_s burst_frames.now) }
 {
-    if !(ok_lengths(control_floor_s, control_ordinary_s, gap_s) && all_bursts(burst_frames)) {
-        return refused(Refusal::OutsideLimits);
-    }
+    within(ok_lengths(control_floor_s, control_ordinary_s, gap_s) && all_bursts(burst_frames))?;
     if burst_frames.len() > MOST_BURSTS {
-        return refused(Refusal::TooManyBursts);
+        return Err(Refusal::TooManyBursts);
     }
-    k.prices.tariff = tariff_of(control_floor_s, control_ordinary_s, gap_s, burst_frames);
-    unmarked()
+    let tariff = tariff_of(control_floor_s, control_ordinary_s, gap_s, burst_frames);
+    k.prices.tariff = Some(tariff);
+    Ok(UNMARKED)
 }

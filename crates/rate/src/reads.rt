@@ -3,17 +3,16 @@ ghost use Rattle.std.specs.Prelude.{◌≡◌};
 ghost use Rattle.rules.specs.Echo.{refuses};
 ghost use Rattle.rate.specs.Reads.{value_of, estimate_of, account_of, lossless_of, threshold_of, choice_of, probing_of, recommend_of, first_mode, modes_of};
 
-use crate::types::{First, Probing, RateController, Rated};
+use crate::types::RateController;
 use account::price;
-use account::state::no_account;
-use account::types::{Account, Families, Offsets, Trying};
+use account::types::{Account, Families, Offsets};
 use ladder::types::{Front, Rung};
 use limits::reading::Reading;
 use limits::refusal::Refusal;
 
 impl RateController {
     // The families last set.
-    pub fn families(&self) -> Families
+    pub fn families(&self) -> Option<Families>
         ensures { result ≡ self.now.prices.families }
     {
         self.prices.families
@@ -28,25 +27,25 @@ impl RateController {
 
     // What the rungs are ranked by. Refused: 6.
     #[tactic(auto, unfolding(crate::specs::Reads::value_of))]
-    pub fn value(&self, mode: Rung) -> Rated
+    pub fn value(&self, mode: Rung) -> Result<f64, Refusal>
         ensures { result ≡ value_of self.now mode.0 }
     {
         if self.table.has(mode) {
-            Rated::Of(price::value(&self.table, &self.prices, &self.state, mode))
+            Ok(price::value(&self.table, &self.prices, &self.state, mode))
         } else {
-            Rated::Refused(Refusal::UnknownRung)
+            Err(Refusal::UnknownRung)
         }
     }
 
     // Data bytes a second of air at the rung delivers, measured and prior together. Refused: 6.
     #[tactic(auto, unfolding(crate::specs::Reads::estimate_of))]
-    pub fn estimate(&self, mode: Rung) -> Rated
+    pub fn estimate(&self, mode: Rung) -> Result<f64, Refusal>
         ensures { result ≡ estimate_of self.now mode.0 }
     {
         if self.table.has(mode) {
-            Rated::Of(price::estimate(&self.table, &self.state, mode))
+            Ok(price::estimate(&self.table, &self.state, mode))
         } else {
-            Rated::Refused(Refusal::UnknownRung)
+            Err(Refusal::UnknownRung)
         }
     }
 
@@ -77,7 +76,7 @@ impl RateController {
         if self.table.has(mode) {
             self.state.account(mode)
         } else {
-            no_account()
+            Account::NONE
         }
     }
 
@@ -95,10 +94,7 @@ impl RateController {
     pub fn recommend(&self) -> Rung
         ensures { result ≡ recommend_of self.now }
     {
-        match self.state.core.trying {
-            Trying::Nothing => self.choice(),
-            Trying::Running(r, _, _) => r,
-        }
+        self.probing().unwrap_or(self.choice())
     }
 
     // The choice, whatever is being tried.
@@ -109,13 +105,10 @@ impl RateController {
     }
 
     // The rung being tried, if one is.
-    pub fn probing(&self) -> Probing
+    pub fn probing(&self) -> Option<Rung>
         ensures { result ≡ probing_of self.now }
     {
-        match self.state.core.trying {
-            Trying::Nothing => Probing::Nothing,
-            Trying::Running(r, _, _) => Probing::At(r),
-        }
+        self.state.core.trying.map(|y| y.rung)
     }
 
     // The smoothed SNR.
@@ -137,23 +130,19 @@ impl RateController {
     pub fn threshold_db(&self, mode: Rung) -> Reading
         ensures { result ≡ threshold_of self.now mode.0 }
     {
-        if self.table.has(mode) {
-            Reading::Value(self.table.row(mode).threshold)
-        } else {
-            Reading::Missing
-        }
+        self.table.has(mode).then(|| self.table.row(mode).threshold)
     }
 
     // The rung that a session starts at from one reading. Refused: 8.
     #[tactic(auto, unfolding(crate::specs::Reads::first_mode))]
-    pub fn first_mode(&self, snr_db: f64) -> First
+    pub fn first_mode(&self, snr_db: f64) -> Result<Rung, Refusal>
         ensures { result ≡ first_mode self.now snr_db }
     {
         if limits::values::ok_db(snr_db) {
             let place = steps::echo::first_place(&self.table, &self.prices, &self.state, snr_db);
-            First::At(self.table.rung_at(place))
+            Ok(self.table.rung_at(place))
         } else {
-            First::Refused(Refusal::OutsideLimits)
+            Err(Refusal::OutsideLimits)
         }
     }
 }

@@ -1,30 +1,27 @@
 -- What a call in place says beside what it leaves of the controller; and the verdict on a transmission, of what one pass over its frames found. What is right is `step` of
 -- Calls.antt. Definitions only.
-use Rattle.std.specs.Prelude.{Bool, false, not, ◌&&◌, ◌||◌, nat_le}
-use Rattle.limits.specs.Refusals.{unless, or_else}
+use Rattle.std.specs.Prelude.{Bool, not, ◌&&◌, ◌||◌, nat_le, Result, Ok, Err}
+use Rattle.limits.specs.Readings.{Reading, ok_snr}
+use Rattle.limits.specs.Refusals.{Verdict, unless, or_else}
 use Rattle.limits.specs.declared.refusal.Refusal.{Refusal}
 use Rattle.limits.specs.declared.refusal.Refusal.TheVariants.{TooManyFrames, OutsideLimits}
-use Rattle.limits.specs.Refusals.{Verdict}
-use Rattle.std.specs.Prelude.{Ok, Err}
-use Rattle.limits.specs.Readings.{Reading}
-use Rattle.limits.specs.Readings.{ok_snr}
 use Rattle.account.specs.declared.types.State.{State}
-use Rattle.account.specs.State.{Trying}
-use Rattle.account.specs.State.{runs}
+use Rattle.account.specs.State.{Trying, runs}
 use Rattle.rules.specs.declared.check.Check.{Check}
-use Rattle.rate.specs.Calls.{RateController, Answer}
-pub use Rattle.rate.specs.declared.types.Reply.{Reply}
+use Rattle.rate.specs.declared.types.TryMarks.{TryMarks}
+use Rattle.rate.specs.Calls.{RateController, Answer, refused}
+
+abbrev pub Reply : Type 0
+Reply = Result TryMarks Refusal
 
 -- the controller as the call left it, and what the call said
 abbrev pub answer_of : RateController → Reply → Answer
-answer_of k o = record { controller = k; verdict = o.verdict; ended = o.ended; begun = o.begun }
+answer_of k (Ok m) = record { controller = k; verdict = Ok tt; ended = m.ended; begun = m.begun }
+answer_of k (Err why) = refused k (Err why)
 
 -- accepted: the marks by the try that ran before and the state that is left
 abbrev pub done_reply : Trying → State → Bool → Reply
-done_reply before s begun = record { verdict = (Ok tt); ended = runs before && (begun || not (runs s.core.trying)); begun = begun }
-
-abbrev pub refused_reply : Refusal → Reply
-refused_reply why = record { verdict = Err why; ended = false; begun = false }
+done_reply before s begun = Ok (record { ended = runs before && (begun || not (runs s.core.trying)); begun = begun })
 
 -- "7 first, then the first bad frame (6 before 8), then the SNR"
 unfoldable pub frames_verdict : Check → Reading → Verdict

@@ -1,21 +1,23 @@
 -- The pass that checks gives the call's verdict.
 use mathlib.Core.Path.{sym, ap, ◌∙◌}
+use Rattle.std.proofs.Common.{rules, ◌≡◌, Err}
 use Rattle.rules.specs.declared.check.Check.{Check}
 use Rattle.rate.specs.Calls.{Frames, answered, step}
 use Rattle.rate.specs.bridges.Replies.{answer_of, frames_verdict}
 use Rattle.rate.proofs.Passes.{same_verdict}
 use Rattle.rate.proofs.moves.observe_frames.Goals as goal
 
-pub returns-in-(Ok tt)-clause-answer : goal.returns-in-(Ok tt)-clause-answer
+pub returns-in_err-frames_verdict-clause-answer : goal.returns-in_err-frames_verdict-clause-answer
 unfolding step
-returns-in-(Ok tt)-clause-answer c =
+returns-in_err-frames_verdict-clause-answer c =
     let a = c.args in
     let v = c.frames_verdict.ensures ∙ ap (λ (x : Check). frames_verdict x a.snr) c.check_frames.ensures ∙ same_verdict a.k.now.table a.frames.now a.snr in
-    c.accept_frames.ensures.answer ∙ ap (answered a.k.now (Frames a.frames.now a.snr)) (sym c.in-(Ok tt).is ∙ v)
+    let said : c.from_residual.result ≡ Err c.in_err-frames_verdict.field-0.0 = search rules in
+    ap (answer_of a.k.now) said ∙ ap (answered a.k.now (Frames a.frames.now a.snr)) (sym c.in_err-frames_verdict.was ∙ v)
 
-pub returns-in-Err-clause-answer : goal.returns-in-Err-clause-answer
+pub returns-clause-answer : goal.returns-clause-answer
 unfolding step
-returns-in-Err-clause-answer c =
+returns-clause-answer c =
     let a = c.args in
     let v = c.frames_verdict.ensures ∙ ap (λ (x : Check). frames_verdict x a.snr) c.check_frames.ensures ∙ same_verdict a.k.now.table a.frames.now a.snr in
-    ap (answer_of a.k.now) c.refused.ensures ∙ ap (answered a.k.now (Frames a.frames.now a.snr)) (sym c.in-Err.is ∙ v)
+    c.accept_frames.ensures.answer ∙ ap (answered a.k.now (Frames a.frames.now a.snr)) (sym c.in_ok-frames_verdict.was ∙ v)
