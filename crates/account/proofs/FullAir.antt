@@ -59,13 +59,13 @@ most_finite : T (finite (of_nat 1000 ⊗ f60))
 unfolding of_int round mul of_bits
 most_finite = tt
 
-given_small : (p : Option Tariff) → TariffSound p → (r : ℕ) → burst_or p r 1 ≤ 1000
-given_small None ps r = omega arith
-given_small (Some p) ps r = pick_by (λ (o : Option ℕ). unwrap_or o 1 ≤ 1000) (ltb r p.counted) (λ e. ps r (ltb→lt r p.counted (yes_of e))) (λ e. omega arith)
+pub bursts_small : (p : Option Tariff) → TariffSound p → (r d : ℕ) → d ≤ 1000 → burst_or p r d ≤ 1000
+bursts_small None ps r d k = k
+bursts_small (Some p) ps r d k = pick_by (λ (o : Option ℕ). unwrap_or o d ≤ 1000) (ltb r p.counted) (λ e. ps r (ltb→lt r p.counted (yes_of e))) (λ e. k)
 
 module _ (t : Table) (p : Option Tariff) (ts : TableSound t) (ps : TariffSound p) (r : ℕ) (h : r < rungs_of t) where
   burst_small : burst_or p r 1 ≤ 1000
-  burst_small = given_small p ps r
+  burst_small = bursts_small p ps r 1 (omega arith)
 
   burst_finite : T (finite (of_nat (burst_or p r 1)))
   burst_finite = between_limits zero64 (of_nat (burst_or p r 1)) (of_nat 1000) tt thousand_finite (of_natural (burst_or p r 1)) (of_mono (burst_or p r 1) 1000 burst_small)

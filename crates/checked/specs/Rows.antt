@@ -27,7 +27,6 @@ equal_rungs n = record {
   capacities = replicate n 21;
   times = replicate n floor_time;
   limits = [];
-  limited = 0;
   floors = 0;
 }
 

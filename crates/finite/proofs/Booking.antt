@@ -18,7 +18,7 @@ use Rattle.half.proofs.Range.{half_share}
 use Rattle.limits.specs.Values.{ok_air, ok_bytes}
 use Rattle.limits.specs.Refusals.{unless}
 use Rattle.limits.specs.declared.refusal.Refusal.TheVariants.{UnknownRung, OutsideLimits}
-use Rattle.std.specs.Prelude.{Ok, Err}
+use Rattle.std.specs.Prelude.{Ok}
 use Rattle.limits.proofs.Verdicts.{or_else_lem, unless_not}
 use Rattle.limits.specs.Readings.{Reading}
 use Rattle.std.specs.Prelude.{None, Some}
@@ -45,7 +45,7 @@ pub record FrameIn (f : Frame) : Type 0 where
   pub air : In air_times f.air
   pub capacity : f.capacity ≤ 4096
 
-pub frames_in_lem : (t : Table) (fs : List Frame) → first_bad t fs ≡ (Ok tt) → All FrameIn fs
+pub frames_in_lem : (t : Table) (fs : List Frame) → first_bad t fs ≡ Ok tt → All FrameIn fs
 frames_in_lem t [] e = tt
 frames_in_lem t (f ∷ fs) e =
     let ok = ok_air f.air && ok_bytes f.capacity in

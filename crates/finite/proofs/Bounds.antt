@@ -1,16 +1,15 @@
 -- The ranges of a controller's numbers, and what holds of its table, prices and state: a table that was accepted has it. Assumes nothing.
-use mathlib.Core.Path.{◌≡◌, subst}
+use mathlib.Core.Path.{◌≡◌}
 use mathlib.Core.Bool.{Bool}
 use mathlib.Core.List.{List, [], ◌∷◌}
 use Prim.Native.Nat.{ℕ, zero, suc, ◌≤◌}
-use lib.Dec.{T, ltb, ltb→lt, leb→le}
-use lib.ListN.{length, get_or, take}
-use lib.Seq.{get_or-take}
+use lib.Dec.{T, ltb, leb→le}
+use lib.ListN.{length, get_or}
 use lib.Ieee.{Float, of_bits, neg, mul, le}
 use lib.Ieee.Fits.{and_l, and_r}
 use Rattle.float.specs.Numbers.{of_nat, f0, f1, f5, f20}
 use Rattle.limits.specs.Values.{f200, f60, milli, ok_db, ok_air, ok_bytes}
-use Rattle.std.specs.Prelude.{Ok, Err}
+use Rattle.std.specs.Prelude.{Ok}
 use Rattle.limits.specs.Readings.{Reading}
 use Rattle.std.specs.Prelude.{None, Some}
 use Rattle.ladder.specs.declared.types.Row.{Row}
@@ -19,11 +18,12 @@ use Rattle.ladder.specs.Lists.{every, tabulate}
 use Rattle.ladder.specs.Types.{no_row, row}
 use Rattle.limits.specs.Readings.{ok_limit, ok_snr}
 use Rattle.ladder.specs.Tables.{Columns, table_verdict, row_of, rows_of, prior_margin, family_gain, table_of, for_air}
-use Rattle.ladder.proofs.Cases.{pick, pick_by, yes_of}
+use Rattle.ladder.proofs.Cases.{pick, yes_of}
 use Rattle.ladder.proofs.Entries.{All}
-use Rattle.ladder.proofs.(Ok tt).{accepted_columns, Within, table_values}
+use Rattle.ladder.proofs.Accepted.{accepted_columns, Within, table_values}
 use Rattle.account.specs.declared.types.Account.{Account}
 use Rattle.account.specs.declared.types.Offsets.{Offsets}
+use Rattle.std.specs.Prelude.{Option, None, Some}
 use Rattle.account.specs.declared.types.Tariff.{Tariff}
 use Rattle.account.specs.declared.types.State.{State}
 use Rattle.account.proofs.FullAir.{TariffSound, IsWait}
@@ -81,11 +81,19 @@ pub record TableIn (t : Table) : Type 0 where
   pub gain : In shares t.air.gain
   pub moves : T (scales t.air.gain surprises surprises)
 
-pub record TariffIn (p : Tariff) : Type 0 where
+pub record GivenIn (p : Tariff) : Type 0 where
   pub floor : In lengths p.floor
   pub ordinary : In lengths p.ordinary
   pub gap : In lengths p.gap
-  pub bursts : TariffSound p
+  pub bursts : TariffSound (Some p)
+
+abbrev pub TariffIn : Option Tariff → Type 0
+TariffIn None = Unit
+TariffIn (Some p) = GivenIn p
+
+pub tariff_sound : (p : Option Tariff) → TariffIn p → TariffSound p
+tariff_sound None h = tt
+tariff_sound (Some p) h = h.bursts
 
 pub record AccountIn (a : Account) : Type 0 where
   pub bytes : In account_bytes a.bytes
@@ -143,13 +151,10 @@ module _ (c : Columns) (w : Within c) where
         threshold = every_any ok_db c.thresholds r f0 (yes_of w.thresholds) defaults.0;
         capacity = leb→le (get_or c.capacities r 0) 4096 (every_any ok_bytes c.capacities r 0 (yes_of w.capacities) tt);
         time = every_any ok_air c.times r f1 (yes_of w.times) defaults.1;
-        limit = pick_by (λ (x : Reading). T (ok_limit x)) (ltb r c.limited)
-            (λ e. subst (λ (x : Reading). T (ok_limit x)) (get_or-take c.limited c.limits r None (ltb→lt r c.limited (yes_of e)))
-            (every_any ok_limit (take c.limited c.limits) r None (yes_of w.limits) tt))
-            (λ e. tt);
+        limit = every_any ok_limit c.limits r None (yes_of w.limits) tt;
       }) no_row_in
 
-pub made_in : (c : Columns) (wide : Bool) → table_verdict c ≡ (Ok tt) → TableIn (for_air (table_of c) wide)
+pub made_in : (c : Columns) (wide : Bool) → table_verdict c ≡ Ok tt → TableIn (for_air (table_of c) wide)
 unfolding table_of rows_of
 made_in c wide e =
     let w = table_values c (accepted_columns c e).values in

@@ -12,7 +12,7 @@ use Rattle.float.specs.Numbers.{f0}
 use Rattle.limits.specs.Values.{ok_db, ok_share, ok_length, ok_burst}
 use Rattle.limits.specs.Refusals.{unless, or_else}
 use Rattle.limits.specs.declared.refusal.Refusal.TheVariants.{TooManyFrames, OutsideLimits, TooManyBursts}
-use Rattle.std.specs.Prelude.{Ok, Err}
+use Rattle.std.specs.Prelude.{Ok}
 use Rattle.limits.proofs.Verdicts.{or_else_lem, unless_not}
 use Rattle.limits.specs.Readings.{Reading}
 use Rattle.std.specs.Prelude.{None, Some}
@@ -22,11 +22,12 @@ use Rattle.ladder.specs.Types.{row}
 use Rattle.limits.specs.Readings.{ok_snr, ok_limit}
 use Rattle.ladder.proofs.Entries.{All, all_replicate}
 use Rattle.account.specs.declared.types.Account.{Account}
+use Rattle.std.specs.Prelude.{Option, None, Some}
 use Rattle.account.specs.declared.types.Tariff.{Tariff}
 use Rattle.account.specs.declared.types.State.{State}
 use Rattle.account.specs.State.{no_account, account, time_of}
 use Rattle.account.specs.Price.{wait_seconds}
-use Rattle.account.proofs.FullAir.{TariffSound, IsWait}
+use Rattle.account.proofs.FullAir.{TariffSound, bursts_small, IsWait}
 use Rattle.rules.specs.declared.types.Frame.{Frame}
 use Rattle.rules.specs.Echo.{silent, observe_echo}
 use Rattle.rules.specs.Check.{first_bad}
@@ -39,7 +40,7 @@ use Rattle.waiting.proofs.Sound.{Sound, step_sound, fresh_sound}
 use Rattle.finite.specs.Finite.{Lies, LiesIn, TableLies, TariffLies, AccountLies, StateLies, FiniteAt, Finite, AlwaysFinite}
 use Rattle.finite.proofs.Ranges.{Range, In, bounded, in_finite}
 use Rattle.finite.proofs.Bounds.{decibels, air_times, account_bytes, account_air, account_frames, lengths, shares, margins, offsets, times, TableIn, TariffIn, AccountIn, Held, all_any, made_in}
-use Rattle.finite.proofs.Values.{burst_small, no_account_in, compared}
+use Rattle.finite.proofs.Values.{no_account_in, compared}
 use Rattle.finite.proofs.Booking.{FrameIn, frames_in_lem, zero_time}
 use Rattle.finite.proofs.Steps.{wait_in, snr_held, echo_held, seed_held, judging_held, inside_held, frames_held}
 
@@ -49,7 +50,7 @@ record Kept (k : RateController) : Type 0 where
   state : Held k.state
 
 -- ---- what is accepted
-frames_ok : (t : Table) (fs : List Frame) (snr : Reading) → verdict t (Frames fs snr) ≡ (Ok tt) → All FrameIn fs × T (ok_snr snr)
+frames_ok : (t : Table) (fs : List Frame) (snr : Reading) → verdict t (Frames fs snr) ≡ Ok tt → All FrameIn fs × T (ok_snr snr)
 unfolding verdict
 frames_ok t fs snr e =
     let last = unless (ok_snr snr) OutsideLimits in
@@ -61,7 +62,7 @@ frames_ok t fs snr e =
 keep : (k : RateController) (s : State) → Kept k → Held s → Kept (record { table = k.table; prices = k.prices; state = s })
 keep k s h g = record { table = h.table; tariff = h.tariff; state = g }
 
-accepted_kept : (k : RateController) (c : Call) → verdict k.table c ≡ (Ok tt) → Kept k → TariffSound (accepted k c).controller.prices.tariff → Kept (accepted k c).controller
+accepted_kept : (k : RateController) (c : Call) → verdict k.table c ≡ Ok tt → Kept k → TariffSound (accepted k c).controller.prices.tariff → Kept (accepted k c).controller
 unfolding verdict accepted silent observe_echo
 accepted_kept k (Frames fs snr) e h b = let ok = frames_ok k.table fs snr e in keep k _ h (frames_held k.table k.prices h.table h.tariff k.state fs snr ok.0 ok.1 h.state)
 accepted_kept k (Echo None snr) e h b = h
@@ -100,7 +101,7 @@ fresh_ends = (tt, tt)
 fresh_kept : (k : RateController) → Fresh k → Kept k
 fresh_kept k (fresh c wide e) = record {
   table = made_in c wide e;
-  tariff = record { floor = fresh_ends.0; ordinary = fresh_ends.0; gap = fresh_ends.0; bursts = λ r h. absurd (omega arith) };
+  tariff = tt;
   state = record {
     accounts = all_replicate AccountIn 32 no_account no_account_in;
     since = all_replicate (In times) 32 f0 zero_time;
@@ -141,12 +142,13 @@ table_lies t h = record {
   gain = lies shares t.air.gain ends.3 h.gain;
 }
 
-tariff_lies : (p : Tariff) → TariffIn p → TariffLies p
-tariff_lies p h = record {
+tariff_lies : (p : Option Tariff) → TariffIn p → TariffLies p
+tariff_lies None h = tt
+tariff_lies (Some p) h = record {
   floor = lies lengths p.floor ends.2 h.floor;
   ordinary = lies lengths p.ordinary ends.2 h.ordinary;
   gap = lies lengths p.gap ends.2 h.gap;
-  bursts = λ r. burst_small p h.bursts r 0 (omega arith);
+  bursts = λ r. bursts_small (Some p) h.bursts r 0 (omega arith);
 }
 
 account_lies : (a : Account) → AccountIn a → AccountLies a

@@ -3,7 +3,7 @@
 use mathlib.Core.Path.{◌≡◌, refl}
 use mathlib.Core.List.{List}
 use Rattle.float.proofs.Monotone.{finite_number}
-use Rattle.std.specs.Prelude.{Ok, Err}
+use Rattle.std.specs.Prelude.{Ok}
 use Rattle.limits.specs.Readings.{Reading}
 use Rattle.ladder.specs.Types.{places_of, rung_at}
 use Rattle.account.specs.Price.{value}
@@ -21,7 +21,7 @@ module _ (k : RateController) (f : Fresh k) (calls : List Call) (fs : List Frame
   abbrev now : RateController
   now = after k calls
 
-  pub decides_lowest : verdict now.table (Frames fs snr) ≡ (Ok tt)
+  pub decides_lowest : verdict now.table (Frames fs snr) ≡ Ok tt
       → let t = now.table in
       let p = now.prices in
       let s = inside t p now.state fs snr in BestOf (candidate t s) (λ i. value t p s (rung_at t i)) (places_of t) (choose t p s)

@@ -15,7 +15,6 @@ use Rattle.limits.specs.Readings.{ok_snr, ok_limit}
 use Rattle.ladder.proofs.Cases.{pick}
 use Rattle.ladder.proofs.Entries.{All, all_set}
 use Rattle.account.specs.State.{Trying}
-use Rattle.account.specs.State.{try_of}
 use Rattle.account.specs.declared.types.Prices.{Prices}
 use Rattle.account.specs.declared.types.State.{State}
 use Rattle.account.specs.State.{wait_of, choice, with_time, with_wait, with_trying, with_place, with_snr, with_echo}
@@ -23,15 +22,14 @@ use Rattle.account.specs.Price.{burst_or, full_air, wait_seconds}
 use Rattle.account.proofs.FullAir.{IsWait}
 use Rattle.rules.specs.declared.types.Frame.{Frame}
 use Rattle.rules.specs.Lowest.{Best}
-use Rattle.rules.specs.Lowest.{found}
 use Rattle.rules.specs.Tries.{Decided}
 use Rattle.rules.specs.Echo.{out, usable, smooth_snr, smooth_echo, end_if_out, echoed, observe_echo, seed, seed_at, observe_snr}
 use Rattle.rules.specs.Booking.{booked}
 use Rattle.rules.specs.Tries.{better, judge_try, to_judge, judge_sent, judge_above, place_from, full_wait, won, end_try, own_frames, counted, begins, above, decide_try, decide_at, decide, choose}
 use Rattle.rules.specs.Transmission.{judged, inside, observe_frames}
 use Rattle.finite.proofs.Ranges.{Range, ◌to◌, In, ◌⊠◌, scaled, sums, products, scales, sum_in, product_in, scaled_in, counts}
-use Rattle.finite.proofs.Bounds.{decibels, air_times, shares, times, TableIn, TariffIn, Held, all_any}
-use Rattle.finite.proofs.Values.{burst_small}
+use Rattle.account.proofs.FullAir.{bursts_small}
+use Rattle.finite.proofs.Bounds.{decibels, air_times, shares, times, TableIn, TariffIn, tariff_sound, Held, all_any}
 use Rattle.finite.proofs.Booking.{FrameIn, zero_time, booked_in}
 
 -- ---- smoothing, by weights whose mix of a range stays in it
@@ -136,7 +134,7 @@ module _ (t : Table) (p : Prices) (ts : TableIn t) (ps : TariffIn p.tariff) wher
       let x = (row t r).time in
       product_in (of_nat 0 to of_nat 48) full_airs times (of_nat (wait_of s r)) (of_nat n ⊗ x)
       (counts 0 (wait_of s r) 48 (omega arith) (all_any IsWait s.wait r 6 h.wait (omega arith)))
-      (product_in (of_nat 0 to of_nat 1000) air_times full_airs (of_nat n) x (counts 0 n 1000 (omega arith) (burst_small p.tariff ps.bursts r 1 (omega arith))) (ts.rows r).time wait_ends.0)
+      (product_in (of_nat 0 to of_nat 1000) air_times full_airs (of_nat n) x (counts 0 n 1000 (omega arith) (bursts_small p.tariff (tariff_sound p.tariff ps) r 1 (omega arith))) (ts.rows r).time wait_ends.0)
       wait_ends.1
 
   full_held : (s : State) → Held s → Held (full_wait t p s)

@@ -5,19 +5,18 @@ use Prim.Native.Nat.{ℕ, zero, suc, ◌≤◌}
 use native.Mathlib.Omega.{arith}
 use lib.Dec.{T, leb, ltb, eqb, leb→le, ltb→lt, lt→ltb, nleb→lt}
 use lib.Ieee.{Float, of_bits, of_int, round, neg, add, sub, mul, div, le, lt}
-use lib.Ieee.Fits.{and_r}
 use lib.Ieee.Positive.{positive}
 use Rattle.float.specs.Numbers.{◌⊕◌, ◌⊖◌, ◌⊗◌, of_nat, f0, f½, f2}
 use Rattle.float.proofs.Order.{number}
 use Rattle.float.proofs.Share.{Share}
 use Rattle.half.proofs.Range.{probability_share, from_share}
 use Rattle.limits.specs.Readings.{Reading}
-use Rattle.std.specs.Prelude.{None, Some}
+use Rattle.std.specs.Prelude.{Option, None, Some}
 use Rattle.ladder.specs.declared.types.Row.{Row}
 use Rattle.ladder.specs.declared.types.Table.{Table}
 use Rattle.ladder.specs.Types.{row, rung_at, is_floor}
 use Rattle.limits.specs.Readings.{ok_snr}
-use Rattle.ladder.proofs.Cases.{pick, pick_by, yes_of}
+use Rattle.ladder.proofs.Cases.{pick, pick_by}
 use Rattle.ladder.proofs.Entries.{All}
 use Rattle.account.specs.declared.types.Account.{Account}
 use Rattle.account.specs.declared.types.Families.{Families}
@@ -25,13 +24,13 @@ use Rattle.account.specs.declared.types.Tariff.{Tariff}
 use Rattle.account.specs.declared.types.Prices.{Prices}
 use Rattle.account.specs.declared.types.State.{State}
 use Rattle.account.specs.State.{no_account, account, choice}
-use Rattle.account.specs.Price.{offset, chance_at, prior_of, estimate_of, estimate_at, lossless, own_floor, other_floor, control, burst_or, overhead_of, overhead, priced_of, priced, value, lossless_price}
-use Rattle.account.proofs.FullAir.{TariffSound}
+use Rattle.account.specs.Price.{offset, chance_at, prior_of, estimate_of, estimate_at, lossless, own_floor, other_floor, control, burst_or, overhead_of, priced_of, priced_by, priced, value, lossless_price}
+use Rattle.account.proofs.FullAir.{bursts_small}
 use Rattle.rules.specs.Echo.{usable}
 use Rattle.rules.specs.Tries.{due, clean_climb, above}
 use Rattle.finite.specs.Finite.{OneTest, most_rate, most_value, Lies, Compared, Alike}
 use Rattle.finite.proofs.Ranges.{Range, ◌to◌, In, bounded, in_by, in_finite, in_number, widen, ◌⊞◌, ◌⊟◌, ◌⊠◌, scaled, holds, sums, differences, products, quotients, scales, sum_in, difference_in, product_in, quotient_in, scaled_in, counts, opposite, one_test}
-use Rattle.finite.proofs.Bounds.{decibels, air_times, account_bytes, account_air, account_frames, capacities, lengths, shares, margins, offsets, RowIn, TableIn, TariffIn, AccountIn, OffsetsIn, Held, all_any}
+use Rattle.finite.proofs.Bounds.{decibels, air_times, account_bytes, account_air, account_frames, capacities, lengths, shares, margins, offsets, RowIn, TableIn, GivenIn, TariffIn, AccountIn, OffsetsIn, Held, all_any}
 
 -- ---- a probability
 pub share_in : (p : Float) → Share p → In shares p
@@ -123,7 +122,7 @@ price_ends : T (quotients (rates ⊠ bursts) (bursts ⊞ overheads) values) × T
 unfolding of_bits of_int round add mul div le
 price_ends = (tt, tt)
 
-overhead_in : (p : Tariff) (families : Families) (floor : Bool) → TariffIn p → In overheads (overhead_of p families floor)
+overhead_in : (p : Tariff) (families : Option Families) (floor : Bool) → GivenIn p → In overheads (overhead_of p families floor)
 overhead_in p families floor h =
     let own = control p (own_floor families floor) in
     let other = control p (other_floor families floor) in
@@ -135,18 +134,14 @@ at_least_one : (n : ℕ) → T (not (eqb n 0)) → 1 ≤ n
 at_least_one zero h = absurd h
 at_least_one (suc n) h = omega arith
 
-priced_in : (given : Bool) (n : ℕ) (time over x : Float) → n ≤ 1000 → In air_times time → In overheads over → In rates x → In values (priced_of given n time over x)
-priced_in given n time over x hn ht ho hx =
+priced_in : (n : ℕ) (time over x : Float) → n ≤ 1000 → In air_times time → In overheads over → In rates x → In values (priced_of n time over x)
+priced_in n time over x hn ht ho hx =
     let a = of_nat n ⊗ time in
-    pick_by (In values) (given && not (eqb n 0))
+    pick_by (In values) (eqb n 0) (λ e. widen rates values x price_ends.1 hx)
     (λ e.
-    let b = product_in (of_nat 1 to of_nat 1000) air_times bursts (of_nat n) time (counts 1 n 1000 (at_least_one n (and_r given (not (eqb n 0)) (yes_of e))) hn) ht burst_ends.0 in
+    let b = product_in (of_nat 1 to of_nat 1000) air_times bursts (of_nat n) time (counts 1 n 1000 (at_least_one n (subst (λ (z : Bool). T (not z)) (sym e) tt)) hn) ht burst_ends.0 in
     quotient_in (rates ⊠ bursts) (bursts ⊞ overheads) values (x ⊗ a) (a ⊕ over)
     (product_in rates bursts (rates ⊠ bursts) x a hx b burst_ends.1) (sum_in bursts overheads (bursts ⊞ overheads) a over b ho burst_ends.2) price_ends.0)
-    (λ e. widen rates values x price_ends.1 hx)
-
-pub burst_small : (p : Tariff) → TariffSound p → (r d : ℕ) → d ≤ 1000 → burst_or p r d ≤ 1000
-burst_small p h r d k = pick_by (λ (n : ℕ). n ≤ 1000) (ltb r p.counted) (λ e. h r (ltb→lt r p.counted (yes_of e))) (λ e. k)
 
 -- ---- of a rung
 pub no_account_in : AccountIn no_account
@@ -194,9 +189,13 @@ module _ (t : Table) (p : Prices) (s : State) (ts : TableIn t) (ps : TariffIn p.
 
   price_in : (r : ℕ) (x : Float) → In rates x → In values (priced t p r x)
   unfolding priced
-  price_in r x k =
-      priced_in p.tariff.given (burst_or p.tariff r 0) (row t r).time (overhead t p r) x (burst_small p.tariff ps.bursts r 0 (omega arith)) (ts.rows r).time
-      (overhead_in p.tariff p.families (is_floor t r) ps) k
+  price_in r x k = go p.tariff ps
+    where
+      go : (q : Option Tariff) → TariffIn q → In values (priced_by q p.families t r x)
+      go None h = widen rates values x price_ends.1 k
+      go (Some q) h =
+          priced_in (burst_or (Some q) r 0) (row t r).time (overhead_of q p.families (is_floor t r)) x (bursts_small (Some q) h.bursts r 0 (omega arith)) (ts.rows r).time
+          (overhead_in q p.families (is_floor t r) h) k
 
   value_in : (r : ℕ) → In values (value t p s r)
   unfolding value

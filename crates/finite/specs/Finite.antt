@@ -5,13 +5,14 @@ use Rattle.std.specs.Float.Ieee.{neg, le, lt}
 use Rattle.std.specs.Float.Ieee.Scale.{finite}
 use Rattle.float.specs.Numbers.{f64, within, f0, f1, f2, f5, f20}
 use Rattle.limits.specs.Values.{f200, f60, milli, ok_db}
-use Rattle.std.specs.Prelude.{Ok, Err}
+use Rattle.std.specs.Prelude.{Ok}
 use Rattle.limits.specs.Readings.{Reading}
 use Rattle.std.specs.Prelude.{None, Some}
 use Rattle.ladder.specs.declared.types.Table.{Table}
 use Rattle.ladder.specs.Tables.{prior_margin}
 use Rattle.ladder.specs.Types.{row, rung_at}
 use Rattle.account.specs.declared.types.Account.{Account}
+use Rattle.std.specs.Prelude.{Option, None, Some}
 use Rattle.account.specs.declared.types.Tariff.{Tariff}
 use Rattle.account.specs.declared.types.Prices.{Prices}
 use Rattle.account.specs.declared.types.State.{State}
@@ -67,11 +68,16 @@ pub record TableLies (t : Table) : Type 0 where
   pub margin : Lies f0 prior_margin t.air.margin
   pub gain : Lies f0 f1 t.air.gain
 
-pub record TariffLies (p : Tariff) : Type 0 where
+pub record GivenLies (p : Tariff) : Type 0 where
   pub floor : Lies f0 f60 p.floor
   pub ordinary : Lies f0 f60 p.ordinary
   pub gap : Lies f0 f60 p.gap
-  pub bursts : (r : ℕ) → burst_or p r 0 ≤ 1000
+  pub bursts : (r : ℕ) → burst_or (Some p) r 0 ≤ 1000
+
+-- where no prices are set there is no number
+abbrev pub TariffLies : Option Tariff → Type 0
+TariffLies None = Unit
+TariffLies (Some p) = GivenLies p
 
 pub record AccountLies (a : Account) : Type 0 where
   pub bytes : Lies f0 most_bytes a.bytes
@@ -136,9 +142,9 @@ pub record Finite (k : RateController) : Type 0 where
   -- between the calls
   pub state : FiniteAt k.table k.prices k.state
   -- and inside an accepted call with frames: once its first n rungs are judged, and where `decide` is asked
-  pub judging : (fs : List Frame) (snr : Reading) (n : ℕ) → verdict k.table (Frames fs snr) ≡ (Ok tt)
+  pub judging : (fs : List Frame) (snr : Reading) (n : ℕ) → verdict k.table (Frames fs snr) ≡ Ok tt
       → FiniteAt k.table k.prices (judge_above n 0 k.table k.prices fs (booked k.table (observe_snr k.state snr) fs))
-  pub deciding : (fs : List Frame) (snr : Reading) → verdict k.table (Frames fs snr) ≡ (Ok tt)
+  pub deciding : (fs : List Frame) (snr : Reading) → verdict k.table (Frames fs snr) ≡ Ok tt
       → FiniteAt k.table k.prices (inside k.table k.prices k.state fs snr)
 
 -- of every controller that a list of calls leaves of a fresh one, refused calls included

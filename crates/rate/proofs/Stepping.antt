@@ -7,7 +7,7 @@ use Rattle.limits.specs.Refusals.{Verdict}
 use Rattle.std.specs.Prelude.{Ok, Err}
 use Rattle.rate.specs.Calls.{RateController, Answer, Call, Frames, Echo, Silence, Snr, Seed, Price, Family, verdict, accepted, refused, answered, step}
 
-pub accepted_says : (k : RateController) (c : Call) → (accepted k c).verdict ≡ (Ok tt)
+pub accepted_says : (k : RateController) (c : Call) → (accepted k c).verdict ≡ Ok tt
 unfolding accepted
 accepted_says k (Frames fs snr) = refl
 accepted_says k (Echo share snr) = refl
@@ -17,7 +17,7 @@ accepted_says k (Seed snr) = refl
 accepted_says k (Price floor ordinary gap bursts) = refl
 accepted_says k (Family own other) = refl
 
-pub by_verdict : (k : RateController) (c : Call) (P : Answer → Type 0) → (verdict k.table c ≡ (Ok tt) → P (accepted k c)) → ((why : Refusal) → P (refused k (Err why))) → P (step k c)
+pub by_verdict : (k : RateController) (c : Call) (P : Answer → Type 0) → (verdict k.table c ≡ Ok tt → P (accepted k c)) → ((why : Refusal) → P (refused k (Err why))) → P (step k c)
 unfolding step
 by_verdict k c P a r = go (verdict k.table c) refl
   where
@@ -25,7 +25,7 @@ by_verdict k c P a r = go (verdict k.table c) refl
     go (Ok _) e = a e
     go (Err why) e = r why
 
-pub accepted_step : (k : RateController) (c : Call) → verdict k.table c ≡ (Ok tt) → step k c ≡ accepted k c
+pub accepted_step : (k : RateController) (c : Call) → verdict k.table c ≡ Ok tt → step k c ≡ accepted k c
 unfolding step
 accepted_step k c e = ap (answered k c) e
 

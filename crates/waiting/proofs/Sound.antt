@@ -14,7 +14,7 @@ use Rattle.float.proofs.Sum.{Naturals, total_natural}
 use Rattle.limits.specs.Values.{ok_air, ok_length, ok_bytes, ok_burst}
 use Rattle.limits.specs.Refusals.{unless, or_else}
 use Rattle.limits.specs.declared.refusal.Refusal.TheVariants.{UnknownRung, TooManyFrames, OutsideLimits, TooManyBursts}
-use Rattle.std.specs.Prelude.{Ok, Err}
+use Rattle.std.specs.Prelude.{Ok}
 use Rattle.limits.specs.Readings.{Reading}
 use Rattle.ladder.specs.declared.types.Table.{Table}
 use Rattle.ladder.specs.Lists.{every, filled}
@@ -41,7 +41,7 @@ pub record Sound (k : RateController) : Type 0 where
   pub ticks : Ticks k.state
 
 -- ---- what is accepted
-frames_natural : (t : Table) (fs : List Frame) → first_bad t fs ≡ (Ok tt) → Naturals (airs fs)
+frames_natural : (t : Table) (fs : List Frame) → first_bad t fs ≡ Ok tt → Naturals (airs fs)
 frames_natural t [] e = tt
 frames_natural t (f ∷ fs) e =
     let ok = ok_air f.air && ok_bytes f.capacity in
@@ -49,7 +49,7 @@ frames_natural t (f ∷ fs) e =
     let b = or_else_lem (unless (in_table t f.rung.0) UnknownRung) (unless ok OutsideLimits) a.0 in
     (air_natural f.air (and_l (ok_air f.air) (ok_bytes f.capacity) (unless_not ok OutsideLimits b.1)), frames_natural t fs a.1)
 
-pub call_natural : (t : Table) (fs : List Frame) (snr : Reading) → verdict t (Frames fs snr) ≡ (Ok tt) → natural (call_air fs)
+pub call_natural : (t : Table) (fs : List Frame) (snr : Reading) → verdict t (Frames fs snr) ≡ Ok tt → natural (call_air fs)
 unfolding verdict
 call_natural t fs snr e =
     let last = unless (ok_snr snr) OutsideLimits in
@@ -61,7 +61,7 @@ bursts_small bursts h r k =
     subst (λ (n : ℕ). n ≤ 1000) (sym (get_or-append bursts (replicate (32 - length bursts) 0) 0 r k)) (leb→le (get_or bursts r 0) 1000 (every_get ok_burst bursts r 0 h k))
 
 -- ---- every step keeps it
-accepted_sound : (k : RateController) (c : Call) → verdict k.table c ≡ (Ok tt) → Sound k → Sound (accepted k c).controller
+accepted_sound : (k : RateController) (c : Call) → verdict k.table c ≡ Ok tt → Sound k → Sound (accepted k c).controller
 unfolding verdict accepted silent
 accepted_sound k (Frames fs snr) e h = record {
   table = h.table;
@@ -99,7 +99,7 @@ after_sound (c ∷ cs) k h = after_sound cs (step k c).controller (step_sound k 
 pub fresh_sound : (k : RateController) → Fresh k → Sound k
 fresh_sound k (fresh c wide e) = record {
   table = made_sound c wide e;
-  tariff = λ (r : ℕ) (h : r < 0). absurd (omega arith);
+  tariff = tt;
   ticks = record {
     since_32 = length-replicate 32 f0;
     wait_32 = length-replicate {A = ℕ} 32 6;

@@ -15,11 +15,12 @@ use Rattle.float.specs.Sum.{total}
 use Rattle.float.proofs.Monotone.{natural}
 use Rattle.float.proofs.Sum.{Naturals}
 use Rattle.limits.specs.Refusals.{Verdict}
-use Rattle.std.specs.Prelude.{Ok, Err}
+use Rattle.std.specs.Prelude.{Ok}
 use Rattle.limits.specs.Readings.{Reading}
 use Rattle.ladder.specs.declared.types.Table.{Table}
 use Rattle.ladder.specs.Types.{rung_at, rungs_of, places_of}
 use Rattle.ladder.proofs.Cases.{yes_of}
+use Rattle.std.specs.Prelude.{Option}
 use Rattle.account.specs.declared.types.Tariff.{Tariff}
 use Rattle.account.specs.declared.types.State.{State}
 use Rattle.account.specs.State.{runs, time_of, wait_of}
@@ -36,7 +37,7 @@ use Rattle.rate.specs.declared.types.RateController.{RateController}
 use Rattle.rate.specs.declared.types.Answer.{Answer}
 use Rattle.rate.specs.Calls.{Call, Frames, Echo, Silence, Snr, Seed, Price, Family, verdict, accepted, step, after}
 use Rattle.waiting.specs.Waiting.{Fresh, fresh, taken, frames_of, carries, frame_call, frame_calls, call_airs, air_sent, bound, Quiet, Outbid, Throughout, Demand3}
-use Rattle.rate.proofs.Stepping.{accepted_says, accepted_step, by_verdict}
+use Rattle.rate.proofs.Stepping.{accepted_says, accepted_step, by_verdict, table_kept}
 use Rattle.waiting.proofs.Deadline.{deadline, not_yet, waited}
 use Rattle.waiting.proofs.Sound.{Sound, call_natural, step_sound, after_sound, fresh_sound}
 use Rattle.waiting.proofs.Tries.{tries_end, marks_tell}
@@ -58,29 +59,16 @@ calm k c =
     by_verdict k c (λ (a : Answer). (taken a.verdict && carries (frames_of c)) ≡ false → Untimed k.state a.controller.state)
     (λ v e. accepted_calm k c (subst (λ (w : Verdict). (taken w && carries (frames_of c)) ≡ false) (accepted_says k c) e)) (λ why e. (refl, refl))
 
-accepted_table : (k : RateController) (c : Call) → (accepted k c).controller.table ≡ k.table
-unfolding accepted
-accepted_table k (Frames fs snr) = refl
-accepted_table k (Echo share snr) = refl
-accepted_table k (Silence steps) = refl
-accepted_table k (Snr snr) = refl
-accepted_table k (Seed snr) = refl
-accepted_table k (Price floor ordinary gap bursts) = refl
-accepted_table k (Family own other) = refl
-
-same_table : (k : RateController) (c : Call) → (step k c).controller.table ≡ k.table
-same_table k c = by_verdict k c (λ (a : Answer). a.controller.table ≡ k.table) (λ e. accepted_table k c) (λ why. refl)
-
 -- a frame call carries a first frame, and was accepted
 data Carried (k : RateController) : Call → Type 0 where
-  carried : (f : Frame) (fs : List Frame) (snr : Reading) → verdict k.table (Frames (f ∷ fs) snr) ≡ (Ok tt) → Carried k (Frames (f ∷ fs) snr)
+  carried : (f : Frame) (fs : List Frame) (snr : Reading) → verdict k.table (Frames (f ∷ fs) snr) ≡ Ok tt → Carried k (Frames (f ∷ fs) snr)
 
 was_carried : (k : RateController) (c : Call) → T (frame_call k c) → Carried k c
 was_carried k c =
     by_verdict k c (λ (a : Answer). T (taken a.verdict && carries (frames_of c)) → Carried k c)
     (λ v h. go c v (subst (λ (w : Verdict). T (taken w && carries (frames_of c))) (accepted_says k c) h)) (λ why h. absurd h)
   where
-    go : (c : Call) → verdict k.table c ≡ (Ok tt) → T (carries (frames_of c)) → Carried k c
+    go : (c : Call) → verdict k.table c ≡ Ok tt → T (carries (frames_of c)) → Carried k c
     go (Frames [] snr) v h = absurd h
     go (Frames (f ∷ fs) snr) v h = carried f fs snr v
     go (Echo share snr) v h = absurd h
@@ -104,8 +92,8 @@ there k s j h =
     let b = s.table.on_table j a in
     (a, b, omega arith)
 
-module _ (k : RateController) (s : Sound k) (i : ℕ) (p : Tariff) (here : Quiet i p k) where
-  accepted_rises : (f : Frame) (fs : List Frame) (snr : Reading) → let c = Frames (f ∷ fs) snr in verdict k.table c ≡ (Ok tt) → Outbid i k c → Quiet i p (accepted k c).controller
+module _ (k : RateController) (s : Sound k) (i : ℕ) (p : Option Tariff) (here : Quiet i p k) where
+  accepted_rises : (f : Frame) (fs : List Frame) (snr : Reading) → let c = Frames (f ∷ fs) snr in verdict k.table c ≡ Ok tt → Outbid i k c → Quiet i p (accepted k c).controller
       → Rises (rung_at k.table (suc i)) k (call_air (f ∷ fs)) (accepted k c).controller.state
   unfolding accepted observe_frames wait_seconds
   accepted_rises f fs snr e o next =
@@ -149,13 +137,13 @@ airs_natural (c ∷ cs) k = go (frame_call k c) refl (airs_natural cs (step k c)
     go false e h = h
 
 -- ---- a run
-first : (i : ℕ) (p : Tariff) (k : RateController) (cs : List Call) → Throughout i p k cs → Quiet i p k
+first : (i : ℕ) (p : Option Tariff) (k : RateController) (cs : List Call) → Throughout i p k cs → Quiet i p k
 first i p k [] h = h
 first i p k (c ∷ cs) h = h.0
 
 -- The time of the rung above at the end of a run is its time at the start with the airs added, and short of the wait: by the last frame call,
 -- of which there is one ahead, or which is past.
-module _ (t : Table) (i : ℕ) (p : Tariff) (w : ℕ) where
+module _ (t : Table) (i : ℕ) (p : Option Tariff) (w : ℕ) where
   abbrev u : ℕ
   u = rung_at t (suc i)
 
@@ -171,7 +159,7 @@ module _ (t : Table) (i : ℕ) (p : Tariff) (w : ℕ) where
   goes [] k e v s h (inl g) = g
   goes [] k e v s h (inr g) = absurd (omega arith)
   goes (c ∷ cs) k e v s h g =
-      go (frame_call k c) refl (λ v' g'. goes cs (step k c).controller (same_table k c ∙ e) v' (step_sound k c s) h.2 g') g
+      go (frame_call k c) refl (λ v' g'. goes cs (step k c).controller (table_kept k c ∙ e) v' (step_sound k c s) h.2 g') g
     where
       later : RateController
       later = (step k c).controller
@@ -191,7 +179,7 @@ module _ (t : Table) (i : ℕ) (p : Tariff) (w : ℕ) where
           subst (λ (x : Table). Rises (rung_at x (suc i)) k (call_air (frames_of c)) later.state) e
           (rises k s i p h.0 c (was_carried k c (yes_of q)) (h.1 (yes_of q)) (first i p later cs h.2)) in
           let l1 = subst (λ (x : Table). T (lt (time later) (deadline (wait_of k.state u) (full_air x k.prices.tariff u)))) e r.early in
-          let l2 = subst (λ (x : Tariff). T (lt (time later) (deadline (wait_of k.state u) (full_air t x u)))) h.0.prices_stay l1 in
+          let l2 = subst (λ (x : Option Tariff). T (lt (time later) (deadline (wait_of k.state u) (full_air t x u)))) h.0.prices_stay l1 in
           let l3 = subst (λ (m : ℕ). T (lt (time later) (deadline m (full_air t p u)))) v l2 in
           subst (λ (y : Float). T (lt (total y rest) end)) r.time (next (r.wait ∙ v) (inl l3))
       go false q next g =

@@ -7,10 +7,10 @@ use Rattle.float.specs.Sum.{total}
 use Rattle.limits.specs.Refusals.{Verdict}
 use Rattle.std.specs.Prelude.{Ok, Err}
 use Rattle.limits.specs.Readings.{Reading}
-use Rattle.std.specs.Prelude.{None, Some}
+use Rattle.std.specs.Prelude.{None}
 use Rattle.ladder.specs.Types.{rung_at}
 use Rattle.ladder.specs.Tables.{Columns, table_verdict, table_of, for_air}
-use Rattle.account.specs.State.{try_of}
+use Rattle.std.specs.Prelude.{Option}
 use Rattle.account.specs.declared.types.Tariff.{Tariff}
 use Rattle.account.specs.declared.types.State.{State}
 use Rattle.account.specs.State.{runs}
@@ -25,7 +25,7 @@ use Rattle.rate.specs.Calls.{Call, Frames, Echo, Silence, Snr, Seed, Price, Fami
 
 -- "every fresh controller": of any columns that `for_table` does not refuse, with or without `for_air(true)`
 pub data Fresh : RateController → Type 0 where
-  fresh : (c : Columns) (wide : Bool) → table_verdict c ≡ (Ok tt) → Fresh (fresh_controller (for_air (table_of c) wide))
+  fresh : (c : Columns) (wide : Bool) → table_verdict c ≡ Ok tt → Fresh (fresh_controller (for_air (table_of c) wide))
 
 -- ---- frame calls: "accepted call that carries frames, and frame call means such a call"
 abbrev pub taken : Verdict → Bool
@@ -94,7 +94,7 @@ bound k = f48 ⊗ full_air k.table k.prices.tariff (rung_at k.table (suc k.state
 
 -- ---- a run's conditions, i being the choice at its start and p the prices set then
 -- "its conditions hold before and after each call"
-pub record Quiet (i : ℕ) (p : Tariff) (k : RateController) : Type 0 where
+pub record Quiet (i : ℕ) (p : Option Tariff) (k : RateController) : Type 0 where
   -- "choice .. stay"
   pub choice_stays : k.state.core.place.0 ≡ i
   -- "and prices stay"
@@ -118,7 +118,7 @@ pub record Outbid (i : ℕ) (k : RateController) (c : Call) : Type 0 where
   pub lossless_beats : T (lt (value k.table k.prices (inside_decide k c) (rung_at k.table i)) (lossless_price k.table k.prices (rung_at k.table (suc i))))
 
 -- "If throughout it ..": before the first call, at each frame call, and after each call
-abbrev pub Throughout : ℕ → Tariff → RateController → List Call → Type 0
+abbrev pub Throughout : ℕ → Option Tariff → RateController → List Call → Type 0
 Throughout i p k [] = Quiet i p k
 Throughout i p k (c ∷ cs) = Quiet i p k × (T (frame_call k c) → Outbid i k c) × Throughout i p (step k c).controller cs
 
