@@ -6,6 +6,7 @@ use Prim.Native.Nat.{ℕ, zero, suc, ◌+◌, ◌-◌, ◌≤◌, ◌<◌}
 use native.Mathlib.Numerals.{add-one}
 use native.Mathlib.Omega.{arith}
 use lib.ListN.{length, get_or}
+use Rattle.std.specs.List.{list_all}
 use Rattle.ladder.specs.Lists.{every, tabulate}
 use Rattle.question.specs.Body.{all_from}
 
@@ -33,6 +34,12 @@ module _ {n i : ℕ} {f : ℕ → Bool} (p : Passed n i f) where
   unfolding all_from
   passed_all h = let q : n - i ≡ 0 = omega arith in rw q at p.left
 
+-- tests that agree at each number agree on all
+pub all_same : (n i : ℕ) (f g : ℕ → Bool) → ((j : ℕ) → f j ≡ g j) → all_from n i f ≡ all_from n i g
+unfolding all_from
+all_same zero i f g e = refl
+all_same (suc n) i f g e = rw (e i, all_same n (suc i) f g e)
+
 -- ---- the list that is made
 pub length_tabulate : {A : Type 0} (n i : ℕ) (f : ℕ → A) → length (tabulate n i f) ≡ n
 length_tabulate zero i f = refl
@@ -47,6 +54,11 @@ pub every_tabulate : {A : Type 0} (n i : ℕ) (f : ℕ → A) (g : A → Bool) �
 unfolding all_from
 every_tabulate zero i f g = refl
 every_tabulate (suc n) i f g = rw (every_tabulate n (suc i) f g)
+
+pub all_tabulate : {A : Type 0} (n i : ℕ) (f : ℕ → A) (g : A → Bool) → list_all g (tabulate n i f) ≡ all_from n i (λ j. g (f j))
+unfolding all_from
+all_tabulate zero i f g = refl
+all_tabulate (suc n) i f g = rw (all_tabulate n (suc i) f g)
 
 -- what is left of it at i: at first all, then one less, in the end none
 module _ {A : Type 0} (f : ℕ → A) (n : ℕ) where
