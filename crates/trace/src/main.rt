@@ -4,7 +4,7 @@
 // file's own form. What the Rust answered is in the file stdout, which the gate holds this program to.
 #![tactic(auto)]
 
-ghost use Rattle.std.specs.Prelude.{◌≤◌};
+ghost use Rattle.std.specs.Prelude.{◌≤◌, IfSome};
 
 use account::types::{Core, Mark, Trying};
 use ladder::types::Rung;
@@ -13,10 +13,8 @@ use limits::refusal::Verdict;
 use question::bytes::{f64_of, part, past, reading_of, u32_of};
 use rate::types::{Answer, Made, RateController, Rated};
 use std::alloc::{AllocError, Global};
-use std::array;
-use std::fmt;
-use std::io;
 use std::io::Read;
+use std::{array, fmt, io};
 
 // The bytes of a rung and of a reading.
 const RUNG: usize = 24;
@@ -35,7 +33,11 @@ struct Mix(u64);
 
 impl Mix {
     fn word(self, w: u64) -> Mix {
-        Mix((self.0 ^ w).rotate_left(29).wrapping_add(0x9e37_79b9_7f4a_7c15))
+        Mix(
+            (self.0 ^ w)
+                .rotate_left(29)
+                .wrapping_add(0x9e37_79b9_7f4a_7c15),
+        )
     }
 
     fn float(self, x: f64) -> Mix {
@@ -99,7 +101,7 @@ impl Mix {
             .float(account::state::time_of(k.state, r))
             .word(u64::from(account::state::wait_of(k.state, r)))
             .rated(k.value(r))
-            .float(k.estimate(r))
+            .rated(k.estimate(r))
             .float(k.lossless(r))
     }
 }
@@ -112,7 +114,17 @@ fn hash(k: RateController) -> u64 {
     all.0
 }
 
-// ---- reading a list: what is left of the input. Past its end each number is 0.
+// ---- reading a list
+// The head of a list: how many rungs, floor rungs and echo limits it has, and whether its air is wide.
+#[derive(Clone, Copy)]
+struct Head {
+    rungs: usize,
+    floors: u32,
+    wide: bool,
+    limited: u32,
+}
+
+// What is left of the input. Past its end each number is 0.
 #[derive(Drop)]
 struct Input<'a> {
     rest: &'a [u8],
@@ -129,10 +141,26 @@ impl<'a> Input<'a> {
     fn number(&mut self) -> u32 {
         u32_of(self.bytes(4))
     }
+
+    // The head that is next, unless it has more rungs or limits than are played.
+    fn head(&mut self) -> Option<Head>
+        ensures { IfSome result (λ head. head.rungs ≤ MOST) }
+    {
+        let rungs = self.number() as usize;
+        let floors = self.number();
+        let wide = self.number() == 1;
+        let limited = self.number();
+        (rungs <= MOST && limited as usize <= MOST).then_some(Head {
+            rungs,
+            floors,
+            wide,
+            limited,
+        })
+    }
 }
 
 // What is read of each of the n rows, at their starts.
-fn column<T, F: Fn(&[u8]) -> T>(
+fn column<T: Drop, F: Fn(&[u8]) -> T>(
     alloc: Global,
     rows: &[u8],
     n: usize,
@@ -142,29 +170,6 @@ fn column<T, F: Fn(&[u8]) -> T>(
     requires few { n ≤ MOST }
 {
     (0..n).map(|i| read(past(rows, i * RUNG))).collect(alloc)
-}
-
-// The head of a list: how many rungs, floor rungs and echo limits it has, and whether its air is wide.
-#[derive(Clone, Copy)]
-struct Head {
-    rungs: usize,
-    floors: u32,
-    wide: bool,
-    limited: u32,
-}
-
-// The head that is next, unless it has more rungs or limits than are played.
-fn head(input: &mut Input) -> Option<Head> {
-    let rungs = input.number() as usize;
-    let floors = input.number();
-    let wide = input.number() == 1;
-    let limited = input.number();
-    (rungs <= MOST && limited as usize <= MOST).then_some(Head {
-        rungs,
-        floors,
-        wide,
-        limited,
-    })
 }
 
 // The controller of the list with that head, whose rungs and limits are next.
@@ -198,6 +203,7 @@ fn number_of(v: Verdict) -> u32 {
 }
 
 // The rung that is tried, or `-`.
+#[derive(Drop)]
 struct Tried(Trying);
 
 impl fmt::Display for Tried {
@@ -249,7 +255,7 @@ fn skip_calls(input: &mut Input, calls: u32) {
 
 // Plays the list that is next. After one that is too large nothing is read.
 fn play_list(rt: &impl Print, alloc: Global, input: &mut Input) -> io::Result<()> {
-    let Some(head) = head(input) else {
+    let Some(head) = input.head() else {
         input.rest = &[];
         return Ok(());
     };
