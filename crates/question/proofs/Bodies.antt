@@ -1,6 +1,6 @@
 -- The lists of a body by their entries: how many there are, and what stands at each. Assumes nothing.
-use mathlib.Core.Path.{◌≡◌, refl, sym, ap, ◌∙◌}
-use mathlib.Core.Bool.{Bool, true, false}
+use mathlib.Core.Path.{◌≡◌, sym, ap, ◌∙◌}
+use mathlib.Core.Bool.{Bool}
 use mathlib.Core.List.{List}
 use Prim.Native.Nat.{ℕ, ◌+◌, ◌*◌, ◌<◌, ◌≤◌, min}
 use native.Mathlib.Nat.{zero-add}
@@ -13,7 +13,7 @@ use Rattle.ladder.specs.Lists.{every, tabulate}
 use Rattle.limits.specs.Values.{ok_burst}
 use Rattle.rules.specs.declared.types.Frame.{Frame}
 use Rattle.question.specs.Bytes.{byte, le16}
-use Rattle.question.specs.Body.{all_from, frame_count, frame_bytes, ok_flags, frame_of, frame_at, frames_in, burst_count, burst_at, bursts_in, no_frame, no_frames, no_bursts, batch_of, bursts_of, Batch, Bursts}
+use Rattle.question.specs.Body.{all_from, frame_count, frame_bytes, ok_flags, frame_of, frame_at, frames_in, burst_count, burst_at, bursts_in, no_frame, no_frames, no_bursts, batch_of, bursts_of}
 use Rattle.question.proofs.Over.{over_filled}
 use Rattle.question.proofs.Chunks.{chunk}
 use Rattle.question.proofs.Ranges.{length_tabulate, tabulate_at, every_tabulate, all_tabulate, all_same}

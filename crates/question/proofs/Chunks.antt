@@ -1,6 +1,6 @@
 -- The whole chunks of n elements that stand in a list from a place on, as `chunks_exact` gives them. Assumes nothing.
-use mathlib.Core.Path.{◌≡◌, refl, sym, ap, ◌∙◌}
-use mathlib.Core.List.{List, ◌++◌}
+use mathlib.Core.Path.{◌≡◌, sym, ap, ◌∙◌}
+use mathlib.Core.List.{List}
 use Prim.Native.Nat.{ℕ, zero, suc, ◌+◌, ◌-◌, ◌*◌, ◌≤◌, ◌<◌}
 use native.Mathlib.Omega.{arith}
 use lib.ListN.{length, take, drop, length-append, length-drop}
@@ -39,14 +39,13 @@ module _ {A : Type 0} (xs : List A) (base n : ℕ) where
 
   chunks_yield : (m i : ℕ) (s : ChunksExact A) → Left m i s → AlwaysYields chunks_exact_steps (λ x. x.now) s (tabulate m i chunk)
   chunks_yield zero i s l = λ x t w. let k = lengths i s t x w in omega (arith, l.few, l.size)
-  chunks_yield (suc m) i s l =
-      (
-        (λ t w. omega (arith, mul-suc n m, w.1.0, l.size, l.enough)),
-        (λ x t w.
+  chunks_yield (suc m) i s l = (
+    (λ t w. omega (arith, mul-suc n m, w.1.0, l.size, l.enough)),
+    (λ x t w.
         let c = comes i s t x w l.size l.rest in
         let k = lengths i s t x w in
         (c.0, chunks_yield m (suc i) t (record { size = w.0 ∙ l.size; rest = c.1; enough = omega (arith, k, mul-suc n m, l.size, l.enough); few = omega (arith, k, mul-suc n m, l.size, l.few) }))),
-      )
+  )
 
   -- all of them, of what `chunks_exact` gave
   pub chunks_all : (m : ℕ) (s : ChunksExact A) → chunks_exact_size s ≡ n → chunks_exact_rest s ≡ drop base xs → n * m ≤ length xs - base → length xs - base < n * m + n → YieldsList chunks_exact_steps (λ x. x.now) s (tabulate m 0 chunk)

@@ -1,6 +1,6 @@
--- A walk over the numbers from 0 up to n, at i: what is left is what passes from i on, and the list that is made from i on. Assumes nothing.
-use mathlib.Core.Path.{◌≡◌, refl, sym, ap, ◌∙◌}
-use mathlib.Core.Bool.{Bool, true, false, ◌&&◌}
+-- Tests of all the numbers from one up to another, and the list that is made of them. Assumes nothing.
+use mathlib.Core.Path.{◌≡◌, refl, ap, ◌∙◌}
+use mathlib.Core.Bool.{Bool}
 use mathlib.Core.List.{[], ◌∷◌}
 use Prim.Native.Nat.{ℕ, zero, suc, ◌+◌, ◌-◌, ◌≤◌, ◌<◌}
 use native.Mathlib.Numerals.{add-one}
@@ -10,30 +10,7 @@ use Rattle.std.specs.List.{list_all}
 use Rattle.ladder.specs.Lists.{every, tabulate}
 use Rattle.question.specs.Body.{all_from}
 
--- ---- whether all pass: those below i do, so what is left decides
-pub record Passed (n i : ℕ) (f : ℕ → Bool) : Type 0 where
-  pub most : i ≤ n
-  pub left : all_from (n - i) i f ≡ all_from n 0 f
-
-pub passed_none : (n : ℕ) (f : ℕ → Bool) → Passed n 0 f
-passed_none n f = let q : n - 0 ≡ n = omega arith in record { most = omega arith; left = ap (λ m. all_from m 0 f) q }
-
-all_next : (n i : ℕ) (f : ℕ → Bool) (m : ℕ) → m ≡ n - i → i < n → all_from m i f ≡ (f i && all_from (n - (i + 1)) (i + 1) f)
-unfolding all_from
-all_next n i f zero e h = absurd (omega arith)
-all_next n i f (suc m) e h = let q : m ≡ n - (i + 1) = omega arith in rw (← q, add-one)
-
-module _ {n i : ℕ} {f : ℕ → Bool} (p : Passed n i f) where
-  pub passed_next : i < n → f i ≡ true → Passed n (i + 1) f
-  passed_next h e = record { most = omega arith; left = sym (all_next n i f (n - i) refl h ∙ rw e) ∙ p.left }
-
-  pub passed_no : i < n → f i ≡ false → false ≡ all_from n 0 f
-  passed_no h e = sym (all_next n i f (n - i) refl h ∙ rw e) ∙ p.left
-
-  pub passed_all : n ≤ i → true ≡ all_from n 0 f
-  unfolding all_from
-  passed_all h = let q : n - i ≡ 0 = omega arith in rw q at p.left
-
+-- ---- whether all pass
 -- tests that agree at each number agree on all
 pub all_same : (n i : ℕ) (f g : ℕ → Bool) → ((j : ℕ) → f j ≡ g j) → all_from n i f ≡ all_from n i g
 unfolding all_from

@@ -31,10 +31,7 @@ fn ok_flags(body: &[u8]) -> bool
 fn ok_frames(body: &[u8]) -> bool
     ensures { result ≡ ok_frames body.now }
 {
-    body.len() >= 10
-        && (body.len() - 10) % 12 == 0
-        && ok_reading(past(body, 1))
-        && ok_flags(body)
+    body.len() >= 10 && (body.len() - 10) % 12 == 0 && ok_reading(past(body, 1)) && ok_flags(body)
 }
 
 // Kind 2.

@@ -1,6 +1,6 @@
 // A question file: its header, its pairs and where the bodies of its events stand. Each function answers for every list of bytes.
-ghost use Rattle.std.specs.Prelude.{◌≡◌, ◌<◌};
-ghost use Rattle.question.specs.File.{event_count, air, known_air, ok_header, offset_at, length_at, ok_pairs, body_at, at_end};
+ghost use Rattle.std.specs.Prelude.{◌≡◌};
+ghost use Rattle.question.specs.File.{event_count, air, ok_header, offset_at, length_at, ok_pairs, body_at};
 
 use crate::bytes::{part, past, u32_of};
 use crate::types::Bandwidth;
@@ -71,11 +71,4 @@ pub fn body_at(file: &[u8], i: u32) -> &[u8]
     let at = offset_at(file, i) as usize;
     let len = length_at(file, i) as usize;
     part(file, at, len)
-}
-
-// Whether the i-th event, from 0, is past the last; and that the count is a u32, so that a number below it has a next.
-pub fn end_at(file: &[u8], i: u32) -> bool
-    ensures { (result ≡ at_end file.now i) × (event_count file.now < 4294967296) }
-{
-    event_count(file) <= i
 }

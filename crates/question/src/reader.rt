@@ -1,9 +1,9 @@
-// "a reader keeps the question file and its next pair": the next body and the end test are its `next`, so a `for` over it goes over the file's bodies.
+// "a reader keeps the question file and its next pair": next body and end test. As an iterator it gives the file's bodies, one after the other.
 ghost use Rattle.std.specs.Prelude.{◌≡◌, ◌<◌};
 ghost use Rattle.std.specs.Iterator.{YieldsFirstRef, item_count};
 ghost use Rattle.question.specs.File.{event_count, body_at, at_end, bodies_from};
 
-use crate::file::{body_at, end_at, event_count};
+use crate::file::{body_at, event_count};
 
 #[derive(Clone, Copy)]
 pub struct Reader<'a> {
@@ -12,11 +12,27 @@ pub struct Reader<'a> {
 }
 
 impl<'a> Reader<'a> {
-    // At the first pair.
+    // At the file's first pair.
     pub fn new(file: &'a [u8]) -> Reader<'a>
-        ensures { bodies_from result.file.now result.next ≡ bodies_from file.now 0 }
+        ensures file { result.file.now ≡ file.now }
+        ensures first { result.next ≡ 0 }
     {
         Reader { file, next: 0 }
+    }
+
+    // The body of the next pair.
+    pub fn next_body(&self) -> &'a [u8]
+        ensures { result.now ≡ body_at self.now.file.now self.now.next }
+    {
+        body_at(self.file, self.next)
+    }
+
+    // Whether no pair is left; and that the count is a u32, so that a number below it has a next.
+    pub fn at_end(&self) -> bool
+        ensures value { result ≡ at_end self.now.file.now self.now.next }
+        ensures counted { event_count self.now.file.now < 4294967296 }
+    {
+        event_count(self.file) <= self.next
     }
 }
 
@@ -29,10 +45,10 @@ impl<'a> Iterator for Reader<'a> {
 
     #[tactic(auto, using(crate::proofs::Events::bodies_next, crate::proofs::Events::bodies_none))]
     fn next(&mut self) -> Option<&'a [u8]> {
-        if event_count(self.file) <= self.next {
+        if self.at_end() {
             return None;
         }
-        let body = body_at(self.file, self.next);
+        let body = self.next_body();
         self.next += 1;
         Some(body)
     }
@@ -42,12 +58,12 @@ impl<'a> Iterator for Reader<'a> {
 pub fn read_body(file: &[u8], i: u32) -> &[u8]
     ensures { result.now ≡ body_at file.now i }
 {
-    body_at(file, i)
+    Reader { file, next: i }.next_body()
 }
 
 // Whether a reader at the i-th pair is at the end.
 pub fn read_end(file: &[u8], i: u32) -> bool
     ensures { (result ≡ at_end file.now i) × (event_count file.now < 4294967296) }
 {
-    end_at(file, i)
+    Reader { file, next: i }.at_end()
 }

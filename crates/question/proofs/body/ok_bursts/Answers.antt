@@ -14,5 +14,5 @@ returns c =
     let b = c.args.body.now in
     let it = c.chunks_exact in
     all_from_yields_List known_burst c.all.new.self _ c.all.result c.all.ensures.ran
-      (chunks_all b 25 2 (burst_count b) it.result it.ensures.size (it.ensures.rest ∙ c.past.ensures) (omega arith) (omega arith)) (λ x r q k. search (rules, tests))
+    (chunks_all b 25 2 (burst_count b) it.result it.ensures.size (it.ensures.rest ∙ c.past.ensures) (omega arith) (omega arith)) (λ x r q k. search (rules, tests))
     ∙ bursts_all b

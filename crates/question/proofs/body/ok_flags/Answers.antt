@@ -14,5 +14,5 @@ returns c =
     let b = c.args.body.now in
     let it = c.chunks_exact in
     all_from_yields_List known_flags c.all.new.self _ c.all.result c.all.ensures.ran
-      (chunks_all b 10 12 (frame_count b) it.result it.ensures.size (it.ensures.rest ∙ c.past.ensures) (omega arith) (omega arith)) (λ x r q k. search (rules, tests))
+    (chunks_all b 10 12 (frame_count b) it.result it.ensures.size (it.ensures.rest ∙ c.past.ensures) (omega arith) (omega arith)) (λ x r q k. search (rules, tests))
     ∙ flags_all b

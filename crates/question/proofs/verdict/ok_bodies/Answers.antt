@@ -16,5 +16,5 @@ pub returns : goal.returns
 returns c =
     let file = c.args.file.now in
     let left : Reader → List (List ℕ) = λ r. bodies_from r.file.now r.next in
-    all_from_yields_List ok_body c.all.new.self _ c.all.result c.all.ensures.ran (YieldsList-from_first (λ x. x.now) left (bodies_from file 0) c.new.ensures) (λ x b q k. search (rules, tests))
+    all_from_yields_List ok_body c.all.new.self _ c.all.result c.all.ensures.ran (YieldsList-from_first (λ x. x.now) left (bodies_from file 0) (rw (c.new.ensures.file, c.new.ensures.first))) (λ x b q k. search (rules, tests))
     ∙ bodies_good file
