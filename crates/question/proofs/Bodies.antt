@@ -6,7 +6,7 @@ use Prim.Native.Nat.{ℕ, ◌+◌, ◌*◌, ◌<◌, ◌≤◌, min}
 use native.Mathlib.Nat.{zero-add}
 use native.Mathlib.Omega.{arith}
 use lib.Dec.{ltb, leb}
-use lib.ListN.{length, get_or, drop, take, length-replicate}
+use lib.ListN.{length, get_or, drop, take}
 use Rattle.std.proofs.lemmas.List.{get_or-take, get_or_past}
 use Rattle.std.specs.List.{list_all}
 use Rattle.ladder.specs.Lists.{every, tabulate}
@@ -58,10 +58,6 @@ burst_at_lem b i d h = tabulate_at (burst_count b) 0 i (burst_at b) d h ∙ rw z
 
 pub burst_past : (b : List ℕ) (i : ℕ) (d : ℕ) → burst_count b ≤ i → get_or (bursts_in b) i d ≡ d
 burst_past b i d h = get_or_past (bursts_in b) i d (omega (arith, length_bursts b))
-
-pub length_no_bursts : length no_bursts ≡ 32
-unfolding no_bursts
-length_no_bursts = length-replicate {A = ℕ} 32 0
 
 pub bursts_is : (b counts : List ℕ) (count : ℕ) → length counts ≡ 32 → ((i : ℕ) → i < 32 → get_or counts i 0 ≡ get_or (bursts_in b) i 0) → count ≡ min (burst_count b) 33
     → record { counts = counts; count = count } ≡ bursts_of (bursts_in b)

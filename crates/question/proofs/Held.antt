@@ -7,8 +7,8 @@ use native.Mathlib.Omega.{arith}
 use borrow.Author.Tests.{leb-true, leb-false, lt-leb}
 use lib.Dec.{leb}
 use lib.Ieee.{Float}
-use lib.ListN.{length, take, length-take}
-use lib.Seq.{take_all, take_at, length-take-le}
+use lib.ListN.{length, take}
+use lib.Seq.{take_all, take_at}
 use Rattle.limits.specs.Values.{ok_length, ok_burst}
 use Rattle.limits.specs.declared.refusal.Refusal.TheVariants.{TooManyFrames, OutsideLimits, TooManyBursts}
 use Rattle.limits.specs.declared.refusal.Verdict.TheVariants.{Refused}
@@ -22,8 +22,6 @@ use Rattle.rate.proofs.ByKind.{price_outside, price_too_many}
 use Rattle.rate.proofs.Passes.{held_step}
 use Rattle.question.specs.Body.{Batch, Bursts, no_frames, no_bursts, batch_of, bursts_of}
 use Rattle.question.specs.Over.{over}
-use Rattle.question.proofs.Over.{over_length}
-use Rattle.question.proofs.Bodies.{length_no_bursts}
 
 -- at most m are all held
 held : {A : Type 0} (m n : ℕ) (xs old : List A) → length xs ≤ m → n ≡ length xs → take n (over (take m xs) old) ≡ xs
@@ -59,15 +57,6 @@ module _ (k : RateController) (floor ordinary gap : Float) (bs : List ℕ) (b : 
       price_too_many k floor ordinary gap bs (and_true (lengths k floor ordinary gap bs) (every ok_burst bs) (sym t ∙ q) (sym u ∙ w)) refl (omega (arith, count_is))
 
   -- the counts that are lent of the array
-  pub prefix_room : b.count ≤ 32 → b.count ≤ length b.counts
-  unfolding bursts_of
-  prefix_room h =
-      let kept : length (take 32 bs) ≤ length no_bursts = omega (arith, length-take 32 bs, length_no_bursts) in
-      omega (arith, ap (λ (x : Bursts). length x.counts) e, over_length (take 32 bs) no_bursts kept, length_no_bursts)
-
-  pub prefix_length : b.count ≤ 32 → b.count ≡ length (take b.count b.counts)
-  prefix_length h = sym (length-take-le b.count b.counts (prefix_room h))
-
   all_held : b.count ≤ 32 → take b.count b.counts ≡ bs
   unfolding bursts_of
   all_held h =

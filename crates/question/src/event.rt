@@ -63,15 +63,13 @@ fn price_bursts(k: RateController, floor: f64, ordinary: f64, gap: f64, body: &[
         return rate::answers::refused(k, Refusal::OutsideLimits);
     }
     let bursts = bursts_of(body);
-    let count = bursts.count;
-    if count > 32 {
+    if bursts.count > 32 {
         if rate::prices::ok_lengths(floor, ordinary, gap) {
             return rate::answers::refused(k, Refusal::TooManyBursts);
         }
         return rate::answers::refused(k, Refusal::OutsideLimits);
     }
-    let counts = bursts.counts;
-    k.price_exchanges(floor, ordinary, gap, &counts[..count])
+    k.price_exchanges(floor, ordinary, gap, bursts.held())
 }
 
 // Kind 6. Refused: 8, 9.
