@@ -7,8 +7,8 @@ use native.Mathlib.Omega.{arith}
 use borrow.Author.Tests.{leb-true, leb-false, lt-leb}
 use lib.Dec.{leb}
 use lib.Ieee.{Float}
-use lib.ListN.{length, take, length-take}
-use lib.Seq.{take_all, take_at, length-take-le}
+use lib.ListN.{length, take}
+use lib.Seq.{take_all, take_at}
 use Rattle.limits.specs.Values.{ok_length, ok_burst}
 use Rattle.limits.specs.declared.refusal.Refusal.TheVariants.{TooManyFrames, OutsideLimits, TooManyBursts}
 use Rattle.limits.specs.declared.refusal.Verdict.TheVariants.{Refused}
@@ -22,8 +22,6 @@ use Rattle.rate.proofs.ByKind.{price_outside, price_too_many}
 use Rattle.rate.proofs.Passes.{held_step}
 use Rattle.question.specs.Body.{Batch, Bursts, no_frames, no_bursts, batch_of, bursts_of}
 use Rattle.question.specs.Over.{over}
-use Rattle.question.proofs.Over.{over_length}
-use Rattle.question.proofs.Bodies.{length_no_bursts}
 
 -- at most m are all held
 held : {A : Type 0} (m n : ℕ) (xs old : List A) → length xs ≤ m → n ≡ length xs → take n (over (take m xs) old) ≡ xs
@@ -37,39 +35,28 @@ and_false false b e = refl
 and_true : (a b : Bool) → a ≡ true → b ≡ true → true ≡ (a && b)
 and_true a b e f = rw (e, f)
 
--- b is what a call gave, and so is the test of the lengths
-module _ (k : RateController) (floor ordinary gap : Float) (bs : List ℕ) (b : Bursts) (e : b ≡ bursts_of bs) where
+-- what is said of the counts is what a call gave, and so is the test of the lengths
+module _ (k : RateController) (floor ordinary gap : Float) (bs : List ℕ) where
   abbrev lengths : Bool
   lengths = ok_length floor && ok_length ordinary && ok_length gap
 
-  within_is : b.within ≡ every ok_burst bs
-  unfolding bursts_of
-  within_is = ap (λ (x : Bursts). x.within) e
-
-  count_is : b.count ≡ min 33 (length bs)
-  unfolding bursts_of
-  count_is = ap (λ (x : Bursts). x.count) e
-
-  pub count_outside : b.within ≡ false → refused k (Refused OutsideLimits) ≡ step k (Price floor ordinary gap bs)
-  count_outside w = price_outside k floor ordinary gap bs (and_false lengths (every ok_burst bs) (sym within_is ∙ w)) refl
-
-  pub too_many : (ok : Bool) → ok ≡ lengths → ok ≡ true → b.within ≡ true → 32 < b.count → refused k (Refused TooManyBursts) ≡ step k (Price floor ordinary gap bs)
-  too_many ok t q w h =
-      price_too_many k floor ordinary gap bs (and_true lengths (every ok_burst bs) (sym t ∙ q) (sym within_is ∙ w)) refl (omega (arith, count_is))
+  pub count_outside : (within : Bool) → within ≡ every ok_burst bs → within ≡ false → refused k (Refused OutsideLimits) ≡ step k (Price floor ordinary gap bs)
+  count_outside within t w = price_outside k floor ordinary gap bs (and_false lengths (every ok_burst bs) (sym t ∙ w)) refl
 
   pub too_many_outside : (ok : Bool) → ok ≡ lengths → ok ≡ false → refused k (Refused OutsideLimits) ≡ step k (Price floor ordinary gap bs)
   too_many_outside ok t q = price_outside k floor ordinary gap bs (rw (← t, q)) refl
 
-  -- the counts that are lent of the array
-  pub prefix_room : b.count ≤ 32 → b.count ≤ length b.counts
+-- and so is b
+module _ (k : RateController) (floor ordinary gap : Float) (bs : List ℕ) (b : Bursts) (e : b ≡ bursts_of bs) where
+  count_is : b.count ≡ min 33 (length bs)
   unfolding bursts_of
-  prefix_room h =
-      let kept : length (take 32 bs) ≤ length no_bursts = omega (arith, length-take 32 bs, length_no_bursts) in
-      omega (arith, ap (λ (x : Bursts). length x.counts) e, over_length (take 32 bs) no_bursts kept, length_no_bursts)
+  count_is = ap (λ (x : Bursts). x.count) e
 
-  pub prefix_length : b.count ≤ 32 → b.count ≡ length (take b.count b.counts)
-  prefix_length h = sym (length-take-le b.count b.counts (prefix_room h))
+  pub too_many : (ok within : Bool) → ok ≡ lengths k floor ordinary gap bs → ok ≡ true → within ≡ every ok_burst bs → within ≡ true → 32 < b.count → refused k (Refused TooManyBursts) ≡ step k (Price floor ordinary gap bs)
+  too_many ok within t q u w h =
+      price_too_many k floor ordinary gap bs (and_true (lengths k floor ordinary gap bs) (every ok_burst bs) (sym t ∙ q) (sym u ∙ w)) refl (omega (arith, count_is))
 
+  -- the counts that are lent of the array
   all_held : b.count ≤ 32 → take b.count b.counts ≡ bs
   unfolding bursts_of
   all_held h =

@@ -1,5 +1,6 @@
-pub mod Nan
 pub mod Ranges
+pub mod Chunks
+pub mod Arrays
 pub mod Over
 pub mod Bodies
 pub mod Pairs

@@ -1,8 +1,7 @@
 -- An event's body, as the list of its bytes: whether it has its kind's form, and the call that it stands for. Definitions only.
 use Rattle.std.specs.Prelude.{Bool, true, false, ◌&&◌, cond, List, ℕ, zero, suc, ◌+◌, ◌-◌, ◌*◌, ◌/◌, ◌%◌, min, leb, ltb, eqb, length, drop, take, replicate}
 use Rattle.float.specs.Numbers.{f0}
-use Rattle.limits.specs.Values.{ok_burst}
-use Rattle.ladder.specs.Lists.{every, tabulate}
+use Rattle.ladder.specs.Lists.{tabulate}
 use Rattle.ladder.specs.Types.{rung}
 use Rattle.rules.specs.declared.types.Frame.{Frame}
 use Rattle.rate.specs.Calls.{Call, Frames, Echo, Silence, Snr, Seed, Price, Family}
@@ -122,6 +121,6 @@ no_bursts = replicate 32 0
 unfoldable pub batch_of : List Frame → Batch
 batch_of fs = record { frames = over (take 256 fs) no_frames; count = min 257 (length fs) }
 
--- burst counts as an array of 32, their number, counted no further than 33, "over 32 burst counts", and whether each of them all is within its limit
+-- burst counts as an array of 32 and their number, counted no further than 33, "over 32 burst counts"
 unfoldable pub bursts_of : List ℕ → Bursts
-bursts_of bs = record { counts = over (take 32 bs) no_bursts; count = min 33 (length bs); within = every ok_burst bs }
+bursts_of bs = record { counts = over (take 32 bs) no_bursts; count = min 33 (length bs) }

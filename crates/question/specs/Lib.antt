@@ -1,4 +1,5 @@
 pub mod Over
+pub mod Numbers
 pub mod Bytes
 pub mod Body
 pub mod File

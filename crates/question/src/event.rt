@@ -4,7 +4,7 @@ ghost use Rattle.rate.specs.Calls.{step, Frames, Echo, Silence, Snr, Seed, Price
 ghost use Rattle.question.specs.Bytes.{byte, le32, float, reading_of};
 ghost use Rattle.question.specs.Body.{frames_in, bursts_in, call_of};
 
-use crate::body::{bursts_of, frame_count, frame_of, frames_of};
+use crate::body::{bursts_of, frame_count, frame_of, frames_of, ok_bursts};
 use crate::bytes::{byte_at, f64_of, past, reading_of, u32_of};
 use limits::refusal::Refusal;
 use rate::types::{Answer, RateController};
@@ -19,7 +19,7 @@ fn frames_event(k: RateController, body: &[u8]) -> Answer
     }
     let batch = frames_of(body);
     let frames = batch.frames;
-    let count = batch.count as usize;
+    let count = batch.count;
     rate::frames::observe_held(k, frames, count, snr)
 }
 
@@ -59,19 +59,17 @@ pub fn families_event(k: RateController, body: &[u8]) -> Answer
 fn price_bursts(k: RateController, floor: f64, ordinary: f64, gap: f64, body: &[u8]) -> Answer
     ensures { result ≡ step k (Price floor ordinary gap (bursts_in body.now)) }
 {
-    let bursts = bursts_of(body);
-    if !bursts.within {
+    if !ok_bursts(body) {
         return rate::answers::refused(k, Refusal::OutsideLimits);
     }
-    let count = bursts.count as usize;
-    if count > 32 {
+    let bursts = bursts_of(body);
+    if bursts.count > 32 {
         if rate::prices::ok_lengths(floor, ordinary, gap) {
             return rate::answers::refused(k, Refusal::TooManyBursts);
         }
         return rate::answers::refused(k, Refusal::OutsideLimits);
     }
-    let counts = bursts.counts;
-    k.price_exchanges(floor, ordinary, gap, &counts[..count])
+    k.price_exchanges(floor, ordinary, gap, bursts.held())
 }
 
 // Kind 6. Refused: 8, 9.

@@ -14,21 +14,21 @@ pub returns-then-kind-eq2 : goal.returns-then-kind-eq2
 unfolding call_of
 returns-then-kind-eq2 c =
     let a = c.args in
-    let k = c.byte_at-kind.ensures.0 in
+    let k = c.byte_at-kind.ensures in
     rw (c.requires.body_value, ← k, eq-eqb _ 2 c.if-kind-eq2.true, c.observe_echo.ensures ∙ echo_moved (laid a.t a.reals.now a.wholes.now) a.p a.c a.books.now c.reading_of-share.result c.f64_of-snr_db.result, c.f64_of-snr_db.ensures, c.past-then-kind-eq2.ensures, c.reading_of-share.ensures, c.past.ensures)
 
 pub returns-then-kind-eq3 : goal.returns-then-kind-eq3
 unfolding call_of
 returns-then-kind-eq3 c =
     let a = c.args in
-    let k = c.byte_at-kind.ensures.0 in
+    let k = c.byte_at-kind.ensures in
     rw (c.requires.body_value, ← k, ne_eqb _ 2 c.if-kind-eq2.false, eq-eqb _ 3 c.if-kind-eq3.true, silence_moves (laid a.t a.reals.now a.wholes.now) a.p a.books.now [] [] a.c (le32 (drop 1 a.body.now)), c.silent.ensures ∙ silence_moved _ a.p _ _, c.u32_of-steps.ensures, c.past-then-kind-eq3.ensures)
 
 pub returns-then-kind-eq4 : goal.returns-then-kind-eq4
 unfolding call_of
 returns-then-kind-eq4 c =
     let a = c.args in
-    let k = c.byte_at-kind.ensures.0 in
+    let k = c.byte_at-kind.ensures in
     rw (c.requires.body_value, ← k, ne_eqb _ 2 c.if-kind-eq2.false, ne_eqb _ 3 c.if-kind-eq3.false, eq-eqb _ 4 c.if-kind-eq4.true, snr_moves (laid a.t a.reals.now a.wholes.now) a.p a.books.now [] [] a.c (reading_of (drop 1 a.body.now)), c.observe_snr.ensures ∙ snr_moved (playing (laid a.t a.reals.now a.wholes.now) a.p [] [] [] a.c) c.reading_of-snr.result, c.reading_of-snr.ensures, c.past-then-kind-eq4.ensures)
 
 pub returns-then-is_pricing : goal.returns-then-is_pricing
@@ -40,7 +40,7 @@ returns-then-is_pricing c =
 pub returns : goal.returns
 returns c =
     let a = c.args in
-    let k = c.byte_at-kind.ensures.0 in
+    let k = c.byte_at-kind.ensures in
     let e2 = ne_eqb _ 2 c.if-kind-eq2.false in
     let e3 = ne_eqb _ 3 c.if-kind-eq3.false in
     let e4 = ne_eqb _ 4 c.if-kind-eq4.false in

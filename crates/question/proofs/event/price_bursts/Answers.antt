@@ -1,42 +1,30 @@
 -- What is refused here is refused of the whole list, and else the array holds all of it.
-use mathlib.Core.Path.{◌∙◌}
-use borrow.Author.Tests.{not-true, not-false}
+use mathlib.Core.Path.{ap, ◌∙◌}
+use mathlib.Core.List.{List}
+use Prim.Native.Nat.{ℕ}
+use Rattle.rate.specs.Calls.{Price, step}
 use Rattle.question.specs.Body.{bursts_in}
-use Rattle.question.proofs.Held.{count_outside, too_many, too_many_outside, prefix_room, prefix_length, bursts_held}
+use Rattle.question.proofs.Held.{count_outside, too_many, too_many_outside, bursts_held}
 use Rattle.question.proofs.event.price_bursts.Goals as goal
 
-pub returns-then-not-bursts : goal.returns-then-not-bursts
-returns-then-not-bursts c =
+pub returns-then-not-ok_bursts : goal.returns-then-not-ok_bursts
+returns-then-not-ok_bursts c =
     let a = c.args in
-    let b = c.bursts_of-bursts in
-    c.refused.ensures ∙ count_outside a.k a.floor a.ordinary a.gap (bursts_in a.body.now) b.result b.ensures (not-true _ c.if-not-bursts.true)
+    c.refused.ensures ∙ count_outside a.k a.floor a.ordinary a.gap (bursts_in a.body.now) _ c.ok_bursts.ensures c.if-not-ok_bursts.true
 
 pub returns-then-ok_lengths : goal.returns-then-ok_lengths
 returns-then-ok_lengths c =
     let a = c.args in
     let b = c.bursts_of-bursts in
-    c.refused-then-ok_lengths.ensures ∙ too_many a.k a.floor a.ordinary a.gap (bursts_in a.body.now) b.result b.ensures _ c.ok_lengths.ensures c.if-ok_lengths.true (not-false _ c.if-not-bursts.false) c.if-count-gt32.true
+    c.refused-then-ok_lengths.ensures ∙ too_many a.k a.floor a.ordinary a.gap (bursts_in a.body.now) b.result b.ensures _ _ c.ok_lengths.ensures c.if-ok_lengths.true c.ok_bursts.ensures c.if-not-ok_bursts.false c.if-bursts-gt32.true
 
-pub returns-then-count-gt32 : goal.returns-then-count-gt32
-returns-then-count-gt32 c =
+pub returns-then-bursts-gt32 : goal.returns-then-bursts-gt32
+returns-then-bursts-gt32 c =
     let a = c.args in
-    let b = c.bursts_of-bursts in
-    c.refused-then-count-gt32.ensures ∙ too_many_outside a.k a.floor a.ordinary a.gap (bursts_in a.body.now) b.result b.ensures _ c.ok_lengths.ensures c.if-ok_lengths.false
-
-pub slice_bounds-counts-end : goal.slice_bounds-counts-end
-slice_bounds-counts-end c =
-    let a = c.args in
-    let b = c.bursts_of-bursts in
-    prefix_room a.k a.floor a.ordinary a.gap (bursts_in a.body.now) b.result b.ensures c.if-count-gt32.false
-
-pub slice_bounds-price_exchanges-end : goal.slice_bounds-price_exchanges-end
-slice_bounds-price_exchanges-end c =
-    let a = c.args in
-    let b = c.bursts_of-bursts in
-    prefix_length a.k a.floor a.ordinary a.gap (bursts_in a.body.now) b.result b.ensures c.if-count-gt32.false
+    c.refused-then-bursts-gt32.ensures ∙ too_many_outside a.k a.floor a.ordinary a.gap (bursts_in a.body.now) _ c.ok_lengths.ensures c.if-ok_lengths.false
 
 pub returns : goal.returns
 returns c =
     let a = c.args in
     let b = c.bursts_of-bursts in
-    bursts_held a.k a.floor a.ordinary a.gap (bursts_in a.body.now) b.result b.ensures c.if-count-gt32.false _ c.price_exchanges.ensures
+    bursts_held a.k a.floor a.ordinary a.gap (bursts_in a.body.now) b.result b.ensures c.if-bursts-gt32.false _ (c.price_exchanges.ensures ∙ ap (λ (xs : List ℕ). step a.k (Price a.floor a.ordinary a.gap xs)) c.held.ensures)
