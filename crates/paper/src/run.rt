@@ -13,8 +13,8 @@ use crate::start::table_of;
 use crate::types::{Line, Outcome};
 use account::state::PROBE_EVERY;
 use account::types::Trying;
-use ladder::types::Air;
-use limits::refusal::{Refusal, Verdict};
+use ladder::types::{Air, Rung};
+use limits::refusal::Verdict;
 use question::file::air;
 use question::reader::{read_body, read_end};
 use rate::types::Probing;
@@ -56,8 +56,14 @@ fn line_of(t: Air, reals: &[f64], wholes: &[u32], m: Moved) -> Line
     }
 }
 
-// What stands in a line's place before the run.
-pub(crate) const NO_LINE: Line = Err(Refusal::ColumnSize);
+// What stands in a line's place before the run: all its bytes are 0, so that an array of it is sooner made.
+pub(crate) const NO_LINE: Line = Ok(Outcome {
+    choice: Rung(0),
+    tried: Probing::Nothing,
+    ofdm_refused: false,
+    ended: false,
+    begun: false,
+});
 
 // The lines of a file's events, one for each place of the slice.
 pub(crate) fn run(file: &[u8], lines: &mut [Line])
