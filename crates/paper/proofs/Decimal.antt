@@ -2,11 +2,10 @@
 use Rattle.std.specs.Prelude.{◌≡◌, ℕ, zero, suc, ◌+◌, ◌/◌, ◌%◌, ◌^◌, ◌<◌, ◌≤◌, [], ◌∷◌, ◌++◌, length}
 use mathlib.Core.Path.{refl, sym, ap, ◌∙◌}
 use native.Mathlib.Numerals.{add-one}
-use native.Mathlib.Nat.{pow-suc}
 use native.Mathlib.Omega.{arith}
 use borrow.Author.Tests.{lt-ltb, le-ltb}
 use lib.ListN.{length-append}
-use Rattle.std.proofs.lemmas.Fmt.{decimal_by_steps}
+use Rattle.std.proofs.lemmas.Fmt.{decimal_by_steps, length-decimal-le}
 use Rattle.std.specs.Fmt as text
 use Rattle.paper.specs.Lines.{digits, decimal}
 
@@ -31,18 +30,9 @@ decimal_more (suc n) h = rw (le-ltb (suc n) 10 h, enough n (suc n / 10) (suc n /
 pub length_more : (n : ℕ) → 10 ≤ n → length (decimal n) ≡ length (decimal (n / 10)) + 1
 length_more n h = rw (decimal_more n h, length-append)
 
--- ---- how many digits: from 10 ^ k on, and below 10 ^ (k + 1), one more than k
-ten_most : (k : ℕ) → 10 ≤ 10 ^ suc k
-ten_most zero = omega arith
-ten_most (suc k) = omega (arith, pow-suc 10 (suc k), ten_most k)
-
-pub digit_count : (k n : ℕ) → 10 ^ k ≤ n → n < 10 ^ suc k → length (decimal n) ≡ suc k
-digit_count zero n g h = rw (decimal_one n h)
-digit_count (suc k) n g h =
-    let p = pow-suc 10 k in
-    let q = pow-suc 10 (suc k) in
-    length_more n (omega (arith, ten_most k)) ∙ ap (λ m. m + 1) (digit_count k (n / 10) (omega (arith, p, q)) (omega (arith, p, q))) ∙ add-one (suc k)
-
 -- ---- it is std's, which `itoa` writes
 pub decimal_text : (n : ℕ) → n < 2 ^ 64 → text.decimal n ≡ decimal n
 decimal_text n h = decimal_by_steps (λ m ds. ds ≡ decimal m) (λ m small. sym (decimal_one m small)) (λ m ds more e. rw (decimal_more m more, e)) n h
+
+pub decimal_short : (n : ℕ) → n < 2 ^ 32 → length (decimal n) ≤ 10
+decimal_short n h = rw (← decimal_text n (omega arith)) (length-decimal-le 10 n (omega arith) (omega arith) (omega arith))

@@ -54,15 +54,15 @@ fn score_in<const N: usize>(file: &[u8], answers: &[u8]) -> Score
     score_all(lines, answers)
 }
 
-// The score of an accepted file. Few events are run in a short array, which is sooner made.
+// The score of an accepted file. Fewer events are run in a shorter array, which is sooner made.
 fn run_score(file: &[u8], answers: &[u8]) -> Score
     requires { event_count file.now ≤ 1000 }
     ensures { result ≡ score_of file.now answers.now }
 {
-    if event_count(file) <= 50 {
-        score_in::<50>(file, answers)
-    } else {
-        score_in::<1000>(file, answers)
+    match event_count(file) {
+        0..=50 => score_in::<50>(file, answers),
+        51..=250 => score_in::<250>(file, answers),
+        _ => score_in::<1000>(file, answers),
     }
 }
 

@@ -55,17 +55,17 @@ fn sheet_in<const N: usize>(file: &[u8], out: &mut [u8]) -> Result<usize, Refusa
     Ok(write_lines(lines, out))
 }
 
-// The sheet of an accepted file. Few events are run in a short array, which is sooner made.
+// The sheet of an accepted file. Fewer events are run in a shorter array, which is sooner made.
 fn run_sheet(file: &[u8], out: &mut [u8]) -> Result<usize, Refusal>
     requires { event_count file.now ≤ 1000 }
     ensures value { result ≡ sheet_by file.now (room_verdict file.now out.old) }
     ensures out_after { out.new ≡ left_by file.now out.old (room_verdict file.now out.old) }
     ensures within { IfOk result (λ len. len ≤ length out.old) }
 {
-    if event_count(file) <= 50 {
-        sheet_in::<50>(file, out)
-    } else {
-        sheet_in::<1000>(file, out)
+    match event_count(file) {
+        0..=50 => sheet_in::<50>(file, out),
+        51..=250 => sheet_in::<250>(file, out),
+        _ => sheet_in::<1000>(file, out),
     }
 }
 

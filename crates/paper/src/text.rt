@@ -8,10 +8,7 @@ ghost use Rattle.paper.specs.Lines.{Number, decimal, ended};
 pub(crate) fn digits_of(n: u32) -> usize
     ensures { (result ≡ length (decimal n)) × (result ≤ 10) }
 {
-    match n.checked_ilog10() {
-        Some(power) => power as usize + 1,
-        None => 1,
-    }
+    if n < 10 { 1 } else { digits_of(n / 10) + 1 }
 }
 
 // A number in decimal.
