@@ -9,7 +9,8 @@ const ROOM: u64 = 65537;
 
 const SHEET: usize = 32768;
 
-// The system's words for an error, without the number that std writes behind them.
+// The system's words for an error, without the number that std writes behind them. (The program mark has the same two
+// functions: a crate for them would be no plainer.)
 fn words(text: &str) -> &str {
     text.split(" (os error ").next().unwrap_or(text)
 }
