@@ -5,7 +5,6 @@
 mod frames;
 mod lines;
 pub mod mark;
-mod outcome;
 mod player;
 mod run;
 pub mod sheet;

@@ -1,22 +1,19 @@
-// The one run of a paper: the loop over a file's events, in place, which leaves the outcome of each.
-ghost use Rattle.std.specs.Prelude.{◌≡◌, ◌*◌, ◌≤◌, [], length};
+// The one run of a paper: the loop over a file's events, in place, which leaves the line of each.
+ghost use Rattle.std.specs.Prelude.{◌≡◌, [], length};
 ghost use Rattle.account.specs.State.{unpriced};
 ghost use Rattle.rate.specs.Reads.{probing_in};
 ghost use Rattle.steps.specs.bridges.Held.{Lent, laid};
 ghost use Rattle.rate.specs.bridges.Playing.{answer_of};
 ghost use Rattle.question.specs.File.{event_count};
-ghost use Rattle.question.specs.Over.{over};
 ghost use Rattle.paper.specs.Sheet.{line_of};
 ghost use Rattle.paper.specs.bridges.Said.{said};
-ghost use Rattle.paper.specs.bridges.Outcomes.{outcomes_of};
 
-use crate::outcome::{outcome_of, put_outcome};
 use crate::player::{play_event, prices_after};
 use crate::start::table_of;
-use crate::types::Line;
+use crate::types::{Line, Outcome};
 use account::state::PROBE_EVERY;
 use account::types::Trying;
-use ladder::types::Air;
+use ladder::types::{Air, Rung};
 use limits::refusal::Verdict;
 use question::file::air;
 use question::reader::{read_body, read_end};
@@ -46,17 +43,32 @@ fn line_of(t: Air, reals: &[f64], wholes: &[u32], m: Moved) -> Line
             let trying = c.trying;
             let choice = steps::read::rung_in(wholes, place);
             let tried = tried_of(trying);
-            let ofdm = steps::echo::refuses_ofdm(t, reals, wholes, c);
-            Line::Answered(choice, tried, ofdm, m.ended, m.begun)
+            let ofdm_refused = steps::echo::refuses_ofdm(t, reals, wholes, c);
+            Ok(Outcome {
+                choice,
+                tried,
+                ofdm_refused,
+                ended: m.ended,
+                begun: m.begun,
+            })
         }
-        Verdict::Refused(why) => Line::Refused(why),
+        Verdict::Refused(why) => Err(why),
     }
 }
 
-// The outcomes of a file's events, one after the other at the start of the slice, in which they have room.
-pub(crate) fn run(file: &[u8], log: &mut [u32])
-    requires { 3 * event_count file.now ≤ length log.old }
-    ensures { log.new ≡ over (outcomes_of (said file.now)) log.old }
+// What stands in a line's place before the run: all its bytes are 0, so that an array of it is sooner made.
+pub(crate) const NO_LINE: Line = Ok(Outcome {
+    choice: Rung(0),
+    tried: Probing::Nothing,
+    ofdm_refused: false,
+    ended: false,
+    begun: false,
+});
+
+// The lines of a file's events, one for each place of the slice.
+pub(crate) fn run(file: &[u8], lines: &mut [Line])
+    requires { length lines.old ≡ event_count file.now }
+    ensures { lines.new ≡ said file.now }
 {
     let table = table_of(air(file));
     let t = table.air;
@@ -70,7 +82,6 @@ pub(crate) fn run(file: &[u8], log: &mut [u32])
     let mut c = account::cores::fresh_core();
     let mut p = account::state::unpriced_prices();
     let mut last = 0.0;
-    let mut at: usize = 0;
     let mut i: u32 = 0;
     while !read_end(file, i) {
         let body = read_body(file, i);
@@ -78,9 +89,7 @@ pub(crate) fn run(file: &[u8], log: &mut [u32])
             t, p, &reals, &wholes, &mut fades, &mut books, &mut since, &mut wait, c, last, body,
         );
         let m = a.moved;
-        let o = outcome_of(line_of(t, &reals, &wholes, m));
-        put_outcome(&mut log[at..], o);
-        at += 3;
+        lines[i as usize] = line_of(t, &reals, &wholes, m);
         p = prices_after(p, body);
         let next = m.core;
         c = account::cores::same_core(next);
