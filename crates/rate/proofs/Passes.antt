@@ -10,7 +10,7 @@ use Rattle.rules.specs.declared.types.Frame.{Frame}
 use Rattle.rules.specs.bridges.Check.{begin_check, check_all}
 use Rattle.rules.proofs.FirstBad.{finds_first_bad, counts_frames}
 use Rattle.rate.specs.Calls.{Frames, verdict}
-use Rattle.rate.specs.bridges.Outcomes.{frames_verdict}
+use Rattle.rate.specs.bridges.Replies.{frames_verdict}
 
 -- a count up to 257 tells whether there are over 256
 over_256 : (n : ℕ) → leb (min 257 n) 256 ≡ leb n 256

@@ -14,7 +14,7 @@ use Rattle.rules.specs.declared.pass.Pass.{Pass}
 use Rattle.rules.specs.bridges.Pass.{begin_pass, pass_all, booked_accounts, decided_pass}
 use Rattle.rules.proofs.Booked as booked
 use Rattle.rate.specs.Calls.{RateController, with_state, Frames, accepted, done}
-use Rattle.rate.specs.bridges.Outcomes.{answer_of, done_outcome}
+use Rattle.rate.specs.bridges.Replies.{answer_of, done_reply}
 
 more_frames : (t : Table) (p : Prices) (s : State) (fs : List Frame) (snr : Reading) → 0 < length fs → decide t p (inside t p s fs snr) ≡ observe_frames t p s fs snr
 unfolding observe_frames
@@ -26,17 +26,17 @@ module _ (k : RateController) (fs : List Frame) (snr : Reading) where
   z = observe_snr k.state snr
 
   -- "empty list stops here"
-  pub empty_accepted : length fs ≡ 0 → answer_of (with_state k z) (done_outcome k.state.core.trying z false) ≡ accepted k (Frames fs snr)
+  pub empty_accepted : length fs ≡ 0 → answer_of (with_state k z) (done_reply k.state.core.trying z false) ≡ accepted k (Frames fs snr)
   unfolding accepted observe_frames
   empty_accepted = go fs
     where
-      go : (l : List Frame) → length l ≡ 0 → answer_of (with_state k z) (done_outcome k.state.core.trying z false) ≡ accepted k (Frames l snr)
+      go : (l : List Frame) → length l ≡ 0 → answer_of (with_state k z) (done_reply k.state.core.trying z false) ≡ accepted k (Frames l snr)
       go [] h = refl
       go (f ∷ l) h = absurd (omega (arith, h))
 
   -- what the pass gathered, the state once its frames are booked, and what was decided
   pub frames_accepted : (y : Pass) (b s : State) (begun : Bool) → 0 < length fs → b ≡ booked_accounts k.table fs z → y ≡ pass_all k.table z.core (begin_pass z.core) fs → decided s begun ≡ decided_pass k.table k.prices b y
-      → answer_of (with_state k s) (done_outcome k.state.core.trying s begun) ≡ accepted k (Frames fs snr)
+      → answer_of (with_state k s) (done_reply k.state.core.trying s begun) ≡ accepted k (Frames fs snr)
   unfolding accepted
   frames_accepted y b s begun more eb ey ed =
       let d : decided s begun ≡ observe_frames k.table k.prices k.state fs snr =

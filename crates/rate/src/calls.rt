@@ -1,16 +1,16 @@
 // The calls that change a controller, by value: each is the call in place, on the controller that was handed over.
 ghost use Rattle.std.specs.Prelude.{◌≡◌, [], ◌∷◌};
 ghost use Rattle.rate.specs.Calls.{step, Snr, Silence, Seed, Echo, Family, Frames, Price};
-ghost use Rattle.rate.specs.bridges.Outcomes.{answer_of};
+ghost use Rattle.rate.specs.bridges.Replies.{answer_of};
 
 use crate::moves;
-use crate::types::{Answer, Outcome, RateController};
+use crate::types::{Answer, RateController, Reply};
 use limits::reading::Reading;
 use rules::accounts::Fades;
 use rules::types::Frame;
 
 // A controller as a call left it, with what the call said.
-fn answer(k: RateController, o: Outcome) -> Answer
+fn answer(k: RateController, o: Reply) -> Answer
     ensures { result ≡ answer_of k o }
 {
     Answer {

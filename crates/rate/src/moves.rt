@@ -8,9 +8,9 @@ ghost use Rattle.limits.specs.declared.refusal.Verdict.TheVariants.{Accepted};
 ghost use Rattle.ladder.specs.Lists.{every, filled};
 ghost use Rattle.rules.specs.bridges.Pass.{Kept};
 ghost use Rattle.rate.specs.Calls.{accepted, step, Snr, Silence, Seed, Echo, Family, Frames, Price, tariff_of};
-ghost use Rattle.rate.specs.bridges.Outcomes.{answer_of, done_outcome, refused_outcome, frames_verdict};
+ghost use Rattle.rate.specs.bridges.Replies.{answer_of, done_reply, refused_reply, frames_verdict};
 
-use crate::types::{Outcome, RateController};
+use crate::types::{RateController, Reply};
 use account::state::was_ended;
 use account::types::{Families, State, Tariff, Trying};
 use limits::reading::Reading;
@@ -27,10 +27,10 @@ const MOST_BURSTS: usize = 32;
 
 // ---- what a call says
 // Accepted: the marks say what became of the try that ran before.
-fn done(before: Trying, s: &State, begun: bool) -> Outcome
-    ensures { result ≡ done_outcome before s.now begun }
+fn done(before: Trying, s: &State, begun: bool) -> Reply
+    ensures { result ≡ done_reply before s.now begun }
 {
-    Outcome {
+    Reply {
         verdict: Verdict::Accepted,
         ended: was_ended(before, s.core.trying, begun),
         begun,
@@ -38,10 +38,10 @@ fn done(before: Trying, s: &State, begun: bool) -> Outcome
 }
 
 // Refused: nothing is moved.
-pub fn refused(why: Refusal) -> Outcome
-    ensures { result ≡ refused_outcome why }
+pub fn refused(why: Refusal) -> Reply
+    ensures { result ≡ refused_reply why }
 {
-    Outcome {
+    Reply {
         verdict: Verdict::Refused(why),
         ended: false,
         begun: false,
@@ -49,10 +49,10 @@ pub fn refused(why: Refusal) -> Outcome
 }
 
 // Accepted, and no try was touched.
-fn unmarked() -> Outcome
+fn unmarked() -> Reply
     ensures { result ≡ record { verdict = Accepted; ended = false; begun = false } }
 {
-    Outcome {
+    Reply {
         verdict: Verdict::Accepted,
         ended: false,
         begun: false,
@@ -62,7 +62,7 @@ fn unmarked() -> Outcome
 // ---- readings and silence
 // Takes an SNR reading and nothing else. Refused: 8.
 #[tactic(auto, unfolding(crate::specs::Calls::step, crate::specs::Calls::accepted, crate::specs::Calls::verdict))]
-pub fn observe_snr(k: &mut RateController, snr: Reading) -> Outcome
+pub fn observe_snr(k: &mut RateController, snr: Reading) -> Reply
     ensures { answer_of k.new result ≡ step k.old (Snr snr) }
 {
     if !limits::reading::ok_snr(snr) {
@@ -75,7 +75,7 @@ pub fn observe_snr(k: &mut RateController, snr: Reading) -> Outcome
 
 // Transmissions went unanswered: a try ends, and the choice steps down.
 #[tactic(auto, unfolding(crate::specs::Calls::step, crate::specs::Calls::accepted, crate::specs::Calls::verdict))]
-pub fn silent(k: &mut RateController, steps: u32) -> Outcome
+pub fn silent(k: &mut RateController, steps: u32) -> Reply
     ensures { answer_of k.new result ≡ step k.old (Silence steps) }
 {
     let before = k.state.core.trying;
@@ -85,7 +85,7 @@ pub fn silent(k: &mut RateController, steps: u32) -> Outcome
 
 // Starts from the connect frame's reading, before any SNR is known. Refused: 8.
 #[tactic(auto, unfolding(crate::specs::Calls::step, crate::specs::Calls::accepted, crate::specs::Calls::verdict))]
-pub fn seed(k: &mut RateController, snr_db: f64) -> Outcome
+pub fn seed(k: &mut RateController, snr_db: f64) -> Reply
     ensures { answer_of k.new result ≡ step k.old (Seed snr_db) }
 {
     if !limits::values::ok_db(snr_db) {
@@ -98,7 +98,7 @@ pub fn seed(k: &mut RateController, snr_db: f64) -> Outcome
 
 // A frame's echo reading: a try of a rung that it rules out ends, and so does a choice. Refused: 8.
 #[tactic(auto, unfolding(crate::specs::Calls::step, crate::specs::Calls::accepted, crate::specs::Calls::verdict))]
-pub fn observe_echo(k: &mut RateController, share: Reading, snr_db: f64) -> Outcome
+pub fn observe_echo(k: &mut RateController, share: Reading, snr_db: f64) -> Reply
     ensures { answer_of k.new result ≡ step k.old (Echo share snr_db) }
 {
     if !limits::reading::ok_echo(share, snr_db) {
@@ -122,7 +122,7 @@ fn snr_verdict(snr: Reading) -> Verdict
 }
 
 // The whole call: 7 first, then the first bad frame, then the SNR.
-#[tactic(auto, unfolding(crate::specs::bridges::Outcomes::frames_verdict))]
+#[tactic(auto, unfolding(crate::specs::bridges::Replies::frames_verdict))]
 fn frames_verdict(v: Check, snr: Reading) -> Verdict
     ensures { result ≡ frames_verdict v snr }
 {
@@ -133,12 +133,7 @@ fn frames_verdict(v: Check, snr: Reading) -> Verdict
 }
 
 // Accepted: of an empty list only the SNR is taken. `fades` are the ageing factors of the last frame before.
-fn accept_frames(
-    k: &mut RateController,
-    fades: &mut Fades,
-    frames: &[Frame],
-    snr: Reading,
-) -> Outcome
+fn accept_frames(k: &mut RateController, fades: &mut Fades, frames: &[Frame], snr: Reading) -> Reply
     requires { Kept k.old.table fades.old }
     ensures answer { answer_of k.new result ≡ accepted k.old (Frames frames.now snr) }
     ensures kept { Kept k.old.table fades.new }
@@ -160,7 +155,7 @@ pub fn observe_frames(
     fades: &mut Fades,
     frames: &[Frame],
     snr: Reading,
-) -> Outcome
+) -> Reply
     requires { Kept k.old.table fades.old }
     ensures answer { answer_of k.new result ≡ step k.old (Frames frames.now snr) }
     ensures kept { Kept k.old.table fades.new }
@@ -174,7 +169,7 @@ pub fn observe_frames(
 // ---- prices and families
 // The families that both stations' control frames go in now.
 #[tactic(auto, unfolding(crate::specs::Calls::step, crate::specs::Calls::accepted, crate::specs::Calls::verdict))]
-pub fn set_families(k: &mut RateController, own_floor: bool, other_floor: bool) -> Outcome
+pub fn set_families(k: &mut RateController, own_floor: bool, other_floor: bool) -> Reply
     ensures { answer_of k.new result ≡ step k.old (Family own_floor other_floor) }
 {
     k.prices.families = Families::Set(own_floor, other_floor);
@@ -237,7 +232,7 @@ pub fn price_exchanges(
     control_ordinary_s: f64,
     gap_s: f64,
     burst_frames: &[u32],
-) -> Outcome
+) -> Reply
     ensures { answer_of k.new result ≡ step k.old (Price control_floor_s control_ordinary_s gap_s burst_frames.now) }
 {
     if !(ok_lengths(control_floor_s, control_ordinary_s, gap_s) && all_bursts(burst_frames)) {

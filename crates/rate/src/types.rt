@@ -13,7 +13,7 @@ pub struct RateController {
 
 // What a changing call says: refused or not, and the marks *ended* (a running try was ended) and *begun*.
 #[derive(Clone, Copy)]
-pub struct Outcome {
+pub struct Reply {
     pub verdict: Verdict,
     pub ended: bool,
     pub begun: bool,

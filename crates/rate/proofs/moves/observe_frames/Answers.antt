@@ -2,7 +2,7 @@
 use mathlib.Core.Path.{sym, ap, ◌∙◌}
 use Rattle.rules.specs.declared.check.Check.{Check}
 use Rattle.rate.specs.Calls.{Frames, answered, step}
-use Rattle.rate.specs.bridges.Outcomes.{answer_of, frames_verdict}
+use Rattle.rate.specs.bridges.Replies.{answer_of, frames_verdict}
 use Rattle.rate.proofs.Passes.{same_verdict}
 use Rattle.rate.proofs.moves.observe_frames.Goals as goal
 

@@ -13,18 +13,18 @@ use Rattle.account.specs.declared.types.Trying.{Trying}
 use Rattle.account.specs.State.{runs}
 use Rattle.rules.specs.declared.check.Check.{Check}
 use Rattle.rate.specs.Calls.{RateController, Answer}
-pub use Rattle.rate.specs.declared.types.Outcome.{Outcome}
+pub use Rattle.rate.specs.declared.types.Reply.{Reply}
 
 -- the controller as the call left it, and what the call said
-abbrev pub answer_of : RateController → Outcome → Answer
+abbrev pub answer_of : RateController → Reply → Answer
 answer_of k o = record { controller = k; verdict = o.verdict; ended = o.ended; begun = o.begun }
 
 -- accepted: the marks by the try that ran before and the state that is left
-abbrev pub done_outcome : Trying → State → Bool → Outcome
-done_outcome before s begun = record { verdict = Accepted; ended = runs before && (begun || not (runs s.core.trying)); begun = begun }
+abbrev pub done_reply : Trying → State → Bool → Reply
+done_reply before s begun = record { verdict = Accepted; ended = runs before && (begun || not (runs s.core.trying)); begun = begun }
 
-abbrev pub refused_outcome : Refusal → Outcome
-refused_outcome why = record { verdict = Refused why; ended = false; begun = false }
+abbrev pub refused_reply : Refusal → Reply
+refused_reply why = record { verdict = Refused why; ended = false; begun = false }
 
 -- "7 first, then the first bad frame (6 before 8), then the SNR"
 unfoldable pub frames_verdict : Check → Reading → Verdict
