@@ -2,10 +2,10 @@
 ghost use Rattle.std.specs.Prelude.{◌≡◌, slice_index, slice_index_or};
 ghost use Rattle.ladder.specs.Lists.{every};
 ghost use Rattle.limits.specs.Values.{ok_burst};
-ghost use Rattle.question.specs.Body.{all_from, frame_count, ok_flags, ok_frames, frame_of, frames_in, no_frame, ok_echo, ok_silence, ok_snr, ok_families, ok_prices, burst_count, bursts_in, ok_seed, ok_body, batch_of, bursts_of};
+ghost use Rattle.question.specs.Body.{all_from, frame_count, ok_flags, ok_frames, frame_of, frames_in, no_frame, ok_echo, ok_silence, ok_snr, ok_families, ok_prices, burst_count, bursts_in, ok_seed, ok_body, first_of};
 
 use crate::bytes::{byte_at, f64_of, ok_reading, past, u16_of};
-use crate::types::{Batch, Bursts, Kind};
+use crate::types::Kind;
 use ladder::types::Rung;
 use rules::types::Frame;
 use std::array;
@@ -135,25 +135,22 @@ fn frame_at(body: &[u8], i: usize) -> Frame
     }
 }
 
-// The frames of a body of frames.
-pub fn frames_of(body: &[u8]) -> Batch
-    ensures { result ≡ batch_of (frames_in body.now) }
+// The first N frames of a body of frames, and past the last no frames.
+pub fn frames_of<const N: usize>(body: &[u8]) -> [Frame; N]
+    ensures { result ≡ first_of N no_frame (frames_in body.now) }
 {
-    Batch {
-        frames: array::from_fn(|i| frame_at(body, i)),
-        count: frame_count(body).min(257),
-    }
+    array::from_fn(|i| frame_at(body, i))
 }
 
 // How many burst counts a body of prices has.
-fn burst_count(body: &[u8]) -> usize
+pub(crate) fn burst_count(body: &[u8]) -> usize
     ensures { result ≡ burst_count body.now }
 {
     body.len().saturating_sub(25) / 2
 }
 
 // Whether each burst count, however many there are, is within its limit.
-pub fn ok_bursts(body: &[u8]) -> bool
+pub(crate) fn ok_bursts(body: &[u8]) -> bool
     ensures { result ≡ every ok_burst (bursts_in body.now) }
 {
     past(body, 25)
@@ -173,12 +170,9 @@ fn burst_at(body: &[u8], i: usize) -> u32
     }
 }
 
-// The burst counts of a body of prices.
-pub fn bursts_of(body: &[u8]) -> Bursts
-    ensures { result ≡ bursts_of (bursts_in body.now) }
+// The first 32 burst counts of a body of prices, and zeros past the last.
+pub(crate) fn bursts_of(body: &[u8]) -> [u32; 32]
+    ensures { result ≡ first_of 32 0 (bursts_in body.now) }
 {
-    Bursts {
-        counts: array::from_fn(|i| burst_at(body, i)),
-        count: burst_count(body).min(33),
-    }
+    array::from_fn(|i| burst_at(body, i))
 }

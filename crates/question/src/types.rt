@@ -1,8 +1,5 @@
-// The kinds of bodies and the airs, by the file's numbers; and what a body holds, as arrays.
-ghost use Rattle.std.specs.Prelude.{◌≡◌, take};
+// The kinds of bodies and the airs, by the file's numbers.
 ghost use Rattle.question.specs.Numbers.{NamesKind, NamesAir};
-
-use rules::types::Frame;
 
 // What a body is of.
 #[derive(Clone, Copy, Debug, PartialEq, Eq)]
@@ -61,38 +58,5 @@ impl TryFrom<u32> for Bandwidth {
             2 => Ok(Bandwidth::Narrow),
             _ => Err(UnknownAir(number)),
         }
-    }
-}
-
-// The frames of a body: the first 256, and how many there are, counted no further than 257, which is too many.
-// Two types, as `Bursts` below: a generic struct has no array of a type parameter.
-#[derive(Clone, Copy)]
-pub struct Batch {
-    pub frames: [Frame; 256],
-    pub count: usize,
-}
-
-impl Batch {
-    // The frames, without what stands past them.
-    pub fn held(&self) -> &[Frame]
-        ensures { result.now ≡ take self.now.count self.now.frames }
-    {
-        self.frames.get(..self.count).unwrap_or(&self.frames)
-    }
-}
-
-// The burst counts of a body: the first 32, and how many there are, counted no further than 33, which is too many.
-#[derive(Clone, Copy)]
-pub struct Bursts {
-    pub counts: [u32; 32],
-    pub count: usize,
-}
-
-impl Bursts {
-    // The counts, without what stands past them.
-    pub fn held(&self) -> &[u32]
-        ensures { result.now ≡ take self.now.count self.now.counts }
-    {
-        self.counts.get(..self.count).unwrap_or(&self.counts)
     }
 }

@@ -10,7 +10,7 @@ use rules::accounts::Fades;
 use rules::types::Frame;
 
 // A controller as a call left it, with what the call said.
-fn answer(k: RateController, o: Reply) -> Answer
+pub fn answer(k: RateController, o: Reply) -> Answer
     ensures { result ≡ answer_of k o }
 {
     Answer {
