@@ -6,27 +6,22 @@ use Rattle.limits.specs.declared.refusal.Refusal.TheVariants.{SheetRoom, AnswerC
 use Rattle.limits.specs.declared.refusal.Verdict.{Verdict}
 use Rattle.limits.specs.declared.refusal.Verdict.TheVariants.{Accepted, Refused}
 use Rattle.ladder.specs.Lists.{tabulate}
-use Rattle.ladder.specs.Tables.{table_of, for_air}
-use Rattle.ladder.specs.Airs.{wide_air, narrow_air}
 use Rattle.rules.specs.Echo.{refuses}
 use Rattle.rate.specs.declared.types.RateController.{RateController}
 use Rattle.rate.specs.declared.types.Answer.{Answer}
 use Rattle.rate.specs.declared.types.Probing.{Probing}
 use Rattle.rate.specs.declared.types.Probing.TheVariants.{Nothing, At}
-use Rattle.rate.specs.Calls.{Call, fresh_controller, step}
+use Rattle.rate.specs.Calls.{Call, step}
 use Rattle.rate.specs.Reads.{choice_of, probing_of}
 use Rattle.question.specs.Body.{call_of}
 use Rattle.question.specs.File.{event_count, air, body_at, file_verdict}
+use Rattle.question.specs.Start.{fresh_for}
 use Rattle.paper.specs.Lines.{Cell, Number, Dash, Word, row_of}
 use Rattle.question.specs.Over.{over}
 pub use Rattle.paper.specs.declared.types.Outcome.{Outcome}
 pub use Rattle.paper.specs.declared.types.Score.{Score}
 
--- ---- the controller, and the calls of the events
--- "starts a fresh controller with the air's tables, .. and `for_air`"
-unfoldable pub fresh_for : ℕ → RateController
-fresh_for n = cond (n == 1) (fresh_controller (for_air (table_of wide_air) true)) (fresh_controller (for_air (table_of narrow_air) false))
-
+-- ---- the calls of the events
 unfoldable pub call_at : List ℕ → ℕ → Call
 call_at s i = call_of (body_at s i)
 

@@ -7,3 +7,4 @@ pub mod Pairs
 pub mod Events
 pub mod Held
 pub mod Readers
+mod Starting

@@ -3,3 +3,4 @@ pub mod Numbers
 pub mod Bytes
 pub mod Body
 pub mod File
+pub mod Start

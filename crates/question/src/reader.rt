@@ -53,17 +53,3 @@ impl<'a> Iterator for Reader<'a> {
         Some(body)
     }
 }
-
-// The body that a reader at the i-th pair has next.
-pub fn read_body(file: &[u8], i: u32) -> &[u8]
-    ensures { result.now ≡ body_at file.now i }
-{
-    Reader { file, next: i }.next_body()
-}
-
-// Whether a reader at the i-th pair is at the end.
-pub fn read_end(file: &[u8], i: u32) -> bool
-    ensures { (result ≡ at_end file.now i) × (event_count file.now < 4294967296) }
-{
-    Reader { file, next: i }.at_end()
-}

@@ -4,8 +4,9 @@ use Rattle.std.specs.Prelude.{ℕ, suc, ◌+◌, cond, List, [], ◌∷◌, ◌+
 use Rattle.rate.specs.declared.types.RateController.{RateController}
 use Rattle.rate.specs.Calls.{Call, step}
 use Rattle.question.specs.File.{air}
+use Rattle.question.specs.Start.{fresh_for}
 use Rattle.paper.specs.Lines.{Cell}
-use Rattle.paper.specs.Sheet.{Line, Outcome, Score, fresh_for, calls_of, line_of, flag_cell, line_bytes}
+use Rattle.paper.specs.Sheet.{Line, Outcome, Score, calls_of, line_of, flag_cell, line_bytes}
 
 -- of calls from a controller on, each on what the last left
 unfoldable pub said_from : RateController → List Call → List Line
