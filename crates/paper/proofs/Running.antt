@@ -7,7 +7,8 @@ use lib.ListN.{length-set}
 use Rattle.std.proofs.lemmas.List.{take_all, take_more_set}
 use Rattle.ladder.specs.Lists.{tabulate}
 use Rattle.rate.specs.declared.types.RateController.{RateController}
-use Rattle.rate.specs.Calls.{Call, Answer, step}
+use Rattle.rate.specs.declared.types.Answer.{Answer}
+use Rattle.rate.specs.Calls.{Call, step}
 use Rattle.question.specs.Body.{call_of}
 use Rattle.question.specs.File.{event_count, air, body_at}
 use Rattle.question.specs.Start.{fresh_for}
@@ -30,22 +31,23 @@ module _ (file : List ℕ) where
   filled_start lines m k h f g = record { size = h; left = rw (tabulate_all (call_at file) (event_count file), g, f) refl }
 
   -- the call of the i-th body left the controller of a, and its line is that of a
+  said_next : (i : ℕ) (k : RateController) (body : List ℕ) (a : Answer) (l : Line) → i < event_count file → body ≡ body_at file i → a ≡ step k (call_of body) → l ≡ line_of a
+      → said_from k (calls_from file i) ≡ l ∷ said_from a.controller (calls_from file (i + 1))
+  unfolding said_from calls_from call_at
+  said_next i k body a l h b e f = rw (tabulate_next (call_at file) (event_count file) i h, f, e, b) refl
+
   pub filled_next : (i : ℕ) (lines : List Line) (k : RateController) (body : List ℕ) (a : Answer) (l : Line) → i < event_count file → body ≡ body_at file i → a ≡ step k (call_of body) → l ≡ line_of a → Filled file i lines k
       → Filled file (i + 1) (set lines i l) a.controller
   filled_next i lines k body a l h b e f w =
       let room : i < length lines = omega (arith, w.size) in
       record {
         size = length-set lines i l ∙ w.size;
-        left = rw (take_more_set lines i l room, append_assoc, ← next) w.left;
+        left = rw (take_more_set lines i l room, append_assoc, ← said_next i k body a l h b e f) w.left;
       }
-    where
-      next : said_from k (calls_from file i) ≡ l ∷ said_from a.controller (calls_from file (i + 1))
-      unfolding said_from calls_from call_at
-      next = rw (tabulate_next (call_at file) (event_count file) i h, f, e, b) refl
+
+  said_none : (i : ℕ) (k : RateController) → event_count file ≤ i → said_from k (calls_from file i) ≡ []
+  unfolding said_from calls_from
+  said_none i k h = rw (tabulate_none (call_at file) (event_count file) i h) refl
 
   pub filled_end : (i : ℕ) (lines : List Line) (k : RateController) → event_count file ≤ i → Filled file i lines k → lines ≡ said file
-  filled_end i lines k h w = sym (append-nil lines) ∙ sym (rw (take_all i lines (omega (arith, w.size)), none) refl) ∙ w.left
-    where
-      none : said_from k (calls_from file i) ≡ []
-      unfolding said_from calls_from
-      none = rw (tabulate_none (call_at file) (event_count file) i h) refl
+  filled_end i lines k h w = sym (append-nil lines) ∙ sym (rw (take_all i lines (omega (arith, w.size)), said_none i k h) refl) ∙ w.left
