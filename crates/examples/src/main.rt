@@ -5,10 +5,10 @@
 // sheets are the Rust's.
 #![tactic(auto)]
 
-ghost use Rattle.std.specs.Prelude.{◌≤◌, IfOk, length};
+ghost use Rattle.std.specs.Prelude.{◌≤◌, IfOk};
 
 use limits::refusal::Refusal;
-use paper::types::{Marked, Score, Sheet};
+use paper::types::Score;
 use question::bytes::{part, past, u32_of};
 use std::io;
 use std::io::Read;
@@ -19,54 +19,27 @@ const HEAD: usize = 16;
 const SHEET: usize = 32768;
 
 // The most bytes of an input that are read.
-const ROOM: usize = 262144;
+const ROOM: u64 = 262144;
 
 // ---- writing
-fn put_number(rt: &impl Print, n: u32) -> io::Result<()> {
-    print!(rt; "{n}")
-}
-
 fn put_refused(rt: &impl Print, why: Refusal) -> io::Result<()> {
-    rt.write_all(b"refused ")?;
-    put_number(rt, why.number())?;
-    rt.write_all(b"\n")
+    println!(rt; "refused {}", why.number())
 }
 
-fn put_score(rt: &impl Print, score: Score) -> io::Result<()> {
-    put_number(rt, score.right)?;
-    rt.write_all(b" ")?;
-    put_number(rt, score.counted)?;
-    rt.write_all(b"\n")
-}
-
-fn put_marks(rt: &impl Print, marked: Marked) -> io::Result<()> {
-    rt.write_all(b"marks ")?;
-    match marked {
-        Marked::Scored(score) => put_score(rt, score),
-        Marked::Refused(why) => put_refused(rt, why),
-    }
-}
-
-// Writes the sheet that the call left in the slice, or why it refused.
-fn put_sheet(rt: &impl Print, answer: Sheet, out: &[u8]) -> io::Result<()> {
-    match answer {
-        Sheet::Written(len) => rt.write_all(part(out, 0, len)),
-        Sheet::Refused(why) => put_refused(rt, why),
+fn put_marks(rt: &impl Print, marks: Result<Score, Refusal>) -> io::Result<()> {
+    print!(rt; "marks ")?;
+    match marks {
+        Ok(score) => println!(rt; "{score}"),
+        Err(why) => put_refused(rt, why),
     }
 }
 
 // ---- the papers
-fn at_most(most: usize, n: usize) -> usize
-    ensures { result ≤ most }
-{
-    if n < most { n } else { most }
-}
-
 // The u32 at a place of a paper's head; more than any input holds is taken for that.
 fn length_at(paper: &[u8], at: usize) -> usize
     ensures { result ≤ 1048576 }
 {
-    at_most(1048576, u32_of(past(paper, at)) as usize)
+    (u32_of(past(paper, at)) as usize).min(1048576)
 }
 
 // Plays a question file in an output slice of the room given, and marks its answers.
@@ -75,14 +48,16 @@ fn play(rt: &impl Print, question: &[u8], answers: &[u8], room: usize) -> io::Re
 {
     let mut out = [0u8; SHEET];
     let slice = &mut out[..room];
-    let answer = paper::sheet::sheet(question, slice);
-    put_sheet(rt, answer, slice)?;
+    match paper::sheet::sheet(question, slice) {
+        Ok(len) => rt.write_all(&slice[..len])?,
+        Err(why) => put_refused(rt, why)?,
+    }
     put_marks(rt, paper::mark::mark(question, answers))
 }
 
 // Plays the paper at the start of the bytes, and gives its length.
 fn play_first(rt: &impl Print, papers: &[u8]) -> io::Result<usize>
-    ensures { IfOk result (λ end. (16 ≤ end) × (end ≤ 3145744)) }
+    ensures { IfOk result (λ end. 16 ≤ end) }
 {
     let question_at = HEAD + length_at(papers, 0);
     let answers_at = question_at + length_at(papers, 4);
@@ -93,24 +68,22 @@ fn play_first(rt: &impl Print, papers: &[u8]) -> io::Result<usize>
         rt,
         part(papers, question_at, length_at(papers, 4)),
         part(papers, answers_at, length_at(papers, 8)),
-        at_most(SHEET, length_at(papers, 12)),
+        length_at(papers, 12).min(SHEET),
     )?;
     Ok(end)
 }
 
-fn play_all(rt: &impl Print, papers: &[u8]) -> io::Result<()>
-    requires { length papers.now ≤ 262144 }
-{
-    let mut at = 0;
-    while at < papers.len() {
-        at += play_first(rt, &papers[at..])?;
+fn play_all(rt: &impl Print, papers: &[u8]) -> io::Result<()> {
+    let mut rest = papers;
+    while !rest.is_empty() {
+        let taken = play_first(rt, rest)?;
+        rest = past(rest, taken);
     }
     Ok(())
 }
 
 fn main(rt: HostRuntime) -> io::Result<()> {
     let mut papers = Vec::new(rt.alloc());
-    rt.reader().take(ROOM as u64).read_to_end(&mut papers)?;
-    let n = papers.len().min(ROOM);
-    play_all(&rt, &papers[..n])
+    rt.reader().take(ROOM).read_to_end(&mut papers)?;
+    play_all(&rt, &papers)
 }

@@ -2,43 +2,30 @@
 // file of answers, one byte an event. A file that cannot be read is named on standard error, and nothing is printed.
 #![tactic(auto)]
 
-use paper::types::{Marked, Score};
+use limits::refusal::Refusal;
+use paper::types::Score;
 use std::env::{Env, FillError};
 use std::fs::{File, Files};
 use std::io;
 use std::io::Read;
 
 // One byte more than a question file may have, and one answer more than a file has events: what is longer is refused, and not cut.
-const QUESTION: usize = 65537;
+const QUESTION: u64 = 65537;
 
-const ANSWERS: usize = 1001;
+const ANSWERS: u64 = 1001;
 
 // The most bytes of an argument.
 const PATH: usize = 4096;
 
-fn put_number(rt: &impl Print, n: u32) -> io::Result<()> {
-    print!(rt; "{n}")
-}
-
-fn put_score(rt: &impl Print, score: Score) -> io::Result<()> {
-    put_number(rt, score.right)?;
-    rt.write_all(b" ")?;
-    put_number(rt, score.counted)?;
-    rt.write_all(b"\n")
-}
-
-fn put_marks(rt: &impl Print, marked: Marked) -> io::Result<()> {
-    match marked {
-        Marked::Scored(score) => put_score(rt, score),
-        Marked::Refused(why) => {
-            rt.write_all(b"refused ")?;
-            put_number(rt, why.number())?;
-            rt.write_all(b"\n")
-        }
+fn put_marks(rt: &impl Print, marks: Result<Score, Refusal>) -> io::Result<()> {
+    match marks {
+        Ok(score) => println!(rt; "{score}"),
+        Err(why) => println!(rt; "refused {}", why.number()),
     }
 }
 
-// The system's words for an error, without the number that std writes behind them.
+// The system's words for an error, without the number that std writes behind them. (The program sheet has the same two
+// functions: a crate for them would be no plainer.)
 fn words(text: &str) -> &str {
     text.split(" (os error ").next().unwrap_or(text)
 }
@@ -52,28 +39,19 @@ fn fail(rt: &(impl Eprint + Alloc), what: &str, why: io::Error) -> io::Result<()
 
 fn has_argument(rt: &impl Env, argument: usize) -> bool {
     let mut path = [0u8; PATH];
-    match rt.arg(argument, &mut path) {
-        Err(FillError::NotPresent) => false,
-        _ => true,
-    }
+    !matches!(rt.arg(argument, &mut path), Err(FillError::NotPresent))
 }
 
 // Opens the file that an argument names. Where there is none, says so and answers none.
 fn open<R: Env + Files + Eprint + Alloc>(rt: &R, argument: usize) -> io::Result<Option<R::File>> {
     let mut path = [0u8; PATH];
-    let n = match rt.arg(argument, &mut path) {
-        Ok(n) => n,
-        Err(_) => {
-            eprintln!(rt; "name of a file: File name too long")?;
-            return Ok(None);
-        }
+    let Ok(n) = rt.arg(argument, &mut path) else {
+        eprintln!(rt; "name of a file: File name too long")?;
+        return Ok(None);
     };
-    let name = match str::from_utf8(&path[..n]) {
-        Ok(name) => name,
-        Err(_) => {
-            eprintln!(rt; "name of a file: not UTF-8")?;
-            return Ok(None);
-        }
+    let Ok(name) = str::from_utf8(&path[..n]) else {
+        eprintln!(rt; "name of a file: not UTF-8")?;
+        return Ok(None);
     };
     match File::open(rt, name) {
         Ok(file) => Ok(Some(file)),
@@ -90,14 +68,11 @@ fn mark_files<F: Read + Drop, R: Print + Eprint + Alloc>(
     answers_file: F,
 ) -> io::Result<()> {
     let mut question = Vec::new(rt.alloc());
-    if let Err(why) = question_file
-        .take(QUESTION as u64)
-        .read_to_end(&mut question)
-    {
+    if let Err(why) = question_file.take(QUESTION).read_to_end(&mut question) {
         return fail(rt, "question file", why);
     }
     let mut answers = Vec::new(rt.alloc());
-    if let Err(why) = answers_file.take(ANSWERS as u64).read_to_end(&mut answers) {
+    if let Err(why) = answers_file.take(ANSWERS).read_to_end(&mut answers) {
         return fail(rt, "answers", why);
     }
     put_marks(rt, paper::mark::mark(&question, &answers))

@@ -1,11 +1,12 @@
--- The digits of a number: one below ten, else those of its tenth and one more. Assumes nothing.
+-- The digits of a number: one below ten, else those of its tenth and one more; how many there are; and they are those that `itoa` writes. Assumes nothing.
 use Rattle.std.specs.Prelude.{◌≡◌, ℕ, zero, suc, ◌+◌, ◌/◌, ◌%◌, ◌^◌, ◌<◌, ◌≤◌, [], ◌∷◌, ◌++◌, length}
-use mathlib.Core.Path.{refl, ap, ◌∙◌}
+use mathlib.Core.Path.{refl, sym, ap, ◌∙◌}
 use native.Mathlib.Numerals.{add-one}
-use native.Mathlib.Nat.{pow-suc}
 use native.Mathlib.Omega.{arith}
 use borrow.Author.Tests.{lt-ltb, le-ltb}
 use lib.ListN.{length-append}
+use Rattle.std.proofs.lemmas.Fmt.{decimal_by_steps, length-decimal-le}
+use Rattle.std.specs.Fmt as text
 use Rattle.paper.specs.Lines.{digits, decimal}
 
 -- more room for digits than the number has changes nothing
@@ -29,23 +30,9 @@ decimal_more (suc n) h = rw (le-ltb (suc n) 10 h, enough n (suc n / 10) (suc n /
 pub length_more : (n : ℕ) → 10 ≤ n → length (decimal n) ≡ length (decimal (n / 10)) + 1
 length_more n h = rw (decimal_more n h, length-append)
 
--- ---- how many digits: from 10 ^ k on, and below 10 ^ (k + 1), one more than k
-ten_most : (k : ℕ) → 10 ≤ 10 ^ suc k
-ten_most zero = omega arith
-ten_most (suc k) = omega (arith, pow-suc 10 (suc k), ten_most k)
+-- ---- it is std's, which `itoa` writes
+pub decimal_text : (n : ℕ) → n < 2 ^ 64 → text.decimal n ≡ decimal n
+decimal_text n h = decimal_by_steps (λ m ds. ds ≡ decimal m) (λ m small. sym (decimal_one m small)) (λ m ds more e. rw (decimal_more m more, e)) n h
 
-pub digit_count : (k n : ℕ) → 10 ^ k ≤ n → n < 10 ^ suc k → length (decimal n) ≡ suc k
-digit_count zero n g h = rw (decimal_one n h)
-digit_count (suc k) n g h =
-    let p = pow-suc 10 k in
-    let q = pow-suc 10 (suc k) in
-    length_more n (omega (arith, ten_most k)) ∙ ap (λ m. m + 1) (digit_count k (n / 10) (omega (arith, p, q)) (omega (arith, p, q))) ∙ add-one (suc k)
-
--- ---- written out
-pub decimal_two : (n : ℕ) → 10 ≤ n → n < 100 → decimal n ≡ (48 + n / 10) ∷ (48 + n % 10) ∷ []
-decimal_two n g h = rw (decimal_more n g, decimal_one (n / 10) (omega arith)) refl
-
-pub decimal_three : (n : ℕ) → 100 ≤ n → n < 1000 → decimal n ≡ (48 + n / 100) ∷ (48 + n / 10 % 10) ∷ (48 + n % 10) ∷ []
-decimal_three n g h =
-    let q : n / 10 / 10 ≡ n / 100 = omega arith in
-    rw (decimal_more n (omega arith), decimal_two (n / 10) (omega arith) (omega arith), q) refl
+pub decimal_short : (n : ℕ) → n < 2 ^ 32 → length (decimal n) ≤ 10
+decimal_short n h = rw (← decimal_text n (omega arith)) (length-decimal-le 10 n (omega arith) (omega arith) (omega arith))

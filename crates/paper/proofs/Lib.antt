@@ -1,11 +1,5 @@
-pub mod FrameWalk
 pub mod Decimal
-pub mod Stored
 pub mod Pieces
-pub mod Starting
 pub mod Printed
-pub mod Playing
-pub mod Light
 pub mod Said
-pub mod Outcomes
 pub mod Running

@@ -1,12 +1,14 @@
--- A line as its pieces: the fields before the last ones, each with a space after it, and how long they are. Assumes nothing.
-use Rattle.std.specs.Prelude.{◌≡◌, ℕ, zero, suc, ◌+◌, ◌/◌, ◌%◌, eqb, List, [], ◌∷◌, ◌++◌, length}
+-- A line as its pieces: a field with a space after it, and what is left; and how long they are. Assumes nothing.
+use Rattle.std.specs.Prelude.{◌≡◌, ℕ, ◌+◌, Bool, true, false, cond, List, [], ◌∷◌, ◌++◌, length, Ok, Err}
 use mathlib.Core.Path.{refl, ap, ◌∙◌}
 use native.Mathlib.Omega.{arith}
 use lib.ListN.{length-append}
+use Rattle.limits.specs.Refusals.{refusal_number}
+use Rattle.limits.specs.declared.refusal.Refusal.{Refusal}
 use Rattle.question.proofs.Over.{Next, next_length}
 use Rattle.paper.specs.Lines.{Cell, Number, Word, digits, decimal, cell_bytes, ended, row_of}
-use Rattle.paper.specs.Sheet.{flag_cell}
-use Rattle.paper.specs.bridges.Outcomes.{Outcome, odd, tried_by, flags_by, answered_by, refused_by}
+use Rattle.paper.specs.Sheet.{Outcome, tried_cell, flag_cell, line_bytes, refused_bytes}
+use Rattle.paper.specs.bridges.Said.{flag_cells}
 
 pub ended_is : (c : Cell) (e : ℕ) → cell_bytes c ++ (e ∷ []) ≡ ended c e
 unfolding ended
@@ -27,36 +29,48 @@ unfolding row_of
 row_two c d = record { is = refl }
 
 -- ---- the flags: a digit each
-flag_digit : (n : ℕ) → cell_bytes (flag_cell (odd n)) ≡ (48 + n % 2) ∷ []
+pub flag_digit : (b : Bool) → cell_bytes (flag_cell b) ≡ cond b 49 48 ∷ []
 unfolding decimal digits
-flag_digit n = go (n % 2) refl
-  where
-    go : (r : ℕ) → n % 2 ≡ r → cell_bytes (flag_cell (eqb r 1)) ≡ (48 + r) ∷ []
-    go zero e = refl
-    go (suc zero) e = refl
-    go (suc (suc r)) e = absurd (omega arith)
+flag_digit true = refl
+flag_digit false = refl
 
-pub flags_row : (m : ℕ) → row_of (flags_by m) ≡ (48 + m / 4 % 2) ∷ 32 ∷ (48 + m / 2 % 2) ∷ 32 ∷ (48 + m % 2) ∷ 10 ∷ []
+pub flags_row : (o : Outcome) → row_of (flag_cells o) ≡ cond o.ofdm_refused 49 48 ∷ 32 ∷ cond o.ended 49 48 ∷ 32 ∷ cond o.begun 49 48 ∷ 10 ∷ []
 unfolding row_of ended
-flags_row m = rw (flag_digit (m / 4), flag_digit (m / 2), flag_digit m) refl
+flags_row o = rw (flag_digit o.ofdm_refused, flag_digit o.ended, flag_digit o.begun) refl
+
+-- ---- a line, from its second field on
+pub refused_next : (event : ℕ) (why : Refusal) → Next (line_bytes event (Err why)) (ended (Number event) 32) (refused_bytes why)
+unfolding line_bytes refused_bytes
+refused_next event why = row_next (Number event) Word (Number (refusal_number why) ∷ [])
+
+module _ (event : ℕ) (o : Outcome) where
+  pub choice_next : Next (line_bytes event (Ok o)) (ended (Number event) 32) (row_of (Number o.choice.0 ∷ tried_cell o.tried ∷ flag_cells o))
+  unfolding line_bytes
+  choice_next = row_next (Number event) (Number o.choice.0) (tried_cell o.tried ∷ flag_cells o)
+
+  pub tried_next : Next (row_of (Number o.choice.0 ∷ tried_cell o.tried ∷ flag_cells o)) (ended (Number o.choice.0) 32) (row_of (tried_cell o.tried ∷ flag_cells o))
+  tried_next = row_next (Number o.choice.0) (tried_cell o.tried) (flag_cells o)
+
+  pub flags_next : Next (row_of (tried_cell o.tried ∷ flag_cells o)) (ended (tried_cell o.tried) 32) (row_of (flag_cells o))
+  flags_next = row_next (tried_cell o.tried) (flag_cell o.ofdm_refused) (flag_cell o.ended ∷ flag_cell o.begun ∷ [])
 
 -- ---- lengths
-pub refused_length : (n : ℕ) → length (row_of (Word ∷ Number n ∷ [])) ≡ 9 + length (decimal n)
-unfolding row_of ended
-refused_length n = omega (arith, length-append (decimal n) (10 ∷ []))
+pub length_refused : (why : Refusal) → length (refused_bytes why) ≡ 9 + length (decimal (refusal_number why))
+unfolding refused_bytes row_of ended
+length_refused why = omega (arith, length-append (decimal (refusal_number why)) (10 ∷ []))
 
-pub refused_row : (event : ℕ) (o : Outcome) → length (row_of (refused_by event o)) ≡ length (decimal event) + 1 + length (row_of (Word ∷ Number o.number ∷ []))
-refused_row event o = next_length (row_next (Number event) Word (Number o.number ∷ [])) ∙ ap (λ n. n + length (row_of (Word ∷ Number o.number ∷ []))) (ended_length (Number event) 32)
+pub refused_row : (event : ℕ) (why : Refusal) → length (line_bytes event (Err why)) ≡ length (decimal event) + 1 + length (refused_bytes why)
+refused_row event why = next_length (refused_next event why) ∙ ap (λ n. n + length (refused_bytes why)) (ended_length (Number event) 32)
 
-pub answered_row : (event : ℕ) (o : Outcome) → length (row_of (answered_by event o)) ≡ length (decimal event) + 1 + length (decimal o.number) + length (cell_bytes (tried_by o)) + 8
+pub answered_row : (event : ℕ) (o : Outcome) → length (line_bytes event (Ok o)) ≡ length (decimal event) + 1 + length (decimal o.choice.0) + length (cell_bytes (tried_cell o.tried)) + 8
 answered_row event o =
     omega (
       arith,
-      next_length (row_next (Number event) (Number o.number) (tried_by o ∷ flags_by o.marks)),
-      next_length (row_next (Number o.number) (tried_by o) (flags_by o.marks)),
-      next_length (row_next (tried_by o) (flag_cell (odd (o.marks / 4))) (flag_cell (odd (o.marks / 2)) ∷ flag_cell (odd o.marks) ∷ [])),
+      next_length (choice_next event o),
+      next_length (tried_next event o),
+      next_length (flags_next event o),
       ended_length (Number event) 32,
-      ended_length (Number o.number) 32,
-      ended_length (tried_by o) 32,
-      ap length (flags_row o.marks),
+      ended_length (Number o.choice.0) 32,
+      ended_length (tried_cell o.tried) 32,
+      ap length (flags_row o),
     )

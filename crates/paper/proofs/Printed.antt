@@ -1,6 +1,6 @@
 -- What the program prints of a file, from what the sheet call answered and left; a buffer with room for the line of a refused file holds all of it.
 -- Assumes nothing.
-use Rattle.std.specs.Prelude.{◌≡◌, ℕ, ◌≤◌, leb, List, length}
+use Rattle.std.specs.Prelude.{◌≡◌, ℕ, ◌≤◌, leb, List, length, Result, Ok, Err}
 use mathlib.Core.Path.{refl, sym, ap, ◌∙◌}
 use native.Mathlib.Omega.{arith}
 use borrow.Author.Tests.{le-leb}
@@ -15,7 +15,6 @@ use Rattle.question.specs.File.{file_verdict}
 use Rattle.paper.specs.Lines.{digits, decimal, ended, row_of}
 use Rattle.question.specs.Over.{over}
 use Rattle.paper.specs.Sheet.{refused_bytes, sheet_of, sheet_verdict, sheet_by, sheet_answer, left_by, sheet_left, printed_by, printed, fitting, printed_in}
-use Rattle.paper.specs.declared.types.Sheet.TheVariants as sheet
 
 -- a text that has room is held whole
 pub fits : (text out : List ℕ) → length text ≤ length out → fitting text out ≡ text
@@ -31,32 +30,32 @@ sheet_room s out e =
 
 -- new is what the sheet call left, n and why what it answered
 module _ (s out new : List ℕ) (left : new ≡ sheet_left s out) where
-  pub printed_sheet : (n : ℕ) → sheet.Written n ≡ sheet_answer s out → (n ≡ length (printed_in s out)) × (new ≡ over (printed_in s out) out)
+  pub printed_sheet : (n : ℕ) → Ok n ≡ sheet_answer s out → (n ≡ length (printed_in s out)) × (new ≡ over (printed_in s out) out)
   unfolding sheet_answer sheet_left printed_in printed
   printed_sheet n e = go (sheet_verdict s out) refl
     where
       go : (v : Verdict) → sheet_verdict s out ≡ v → (n ≡ length (printed_in s out)) × (new ≡ over (printed_in s out) out)
       go Accepted q =
           let is : printed_in s out ≡ sheet_of s = rw q (fits (sheet_of s) out (sheet_room s out q)) in
-          let length-is : sheet.Written n ≡ sheet.Written (length (sheet_of s)) = e ∙ ap (sheet_by s) q in
+          let length-is : Ok n ≡ Ok (length (sheet_of s)) = e ∙ ap (sheet_by s) q in
           let n-is : n ≡ length (sheet_of s) = cc in
           (n-is ∙ ap length (sym is), left ∙ ap (left_by s out) q ∙ ap (λ text. over text out) (sym is))
       go (Refused why) q = let z : ◌≡◌ {A = ℕ} 0 1 = cc (e ∙ ap (sheet_by s) q) in absurd (omega arith)
 
-  refused_text : (why : Refusal) → sheet.Refused why ≡ sheet_answer s out → (fitting (refused_bytes why) new ≡ printed_in s out) × (new ≡ out)
+  refused_text : (why : Refusal) → Err why ≡ sheet_answer s out → (fitting (refused_bytes why) new ≡ printed_in s out) × (new ≡ out)
   unfolding sheet_answer sheet_left printed_in printed
   refused_text why e = go (sheet_verdict s out) refl
     where
       go : (v : Verdict) → sheet_verdict s out ≡ v → (fitting (refused_bytes why) new ≡ printed_in s out) × (new ≡ out)
       go Accepted q = let z : ◌≡◌ {A = ℕ} 0 1 = cc (e ∙ ap (sheet_by s) q) in absurd (omega arith)
       go (Refused y) q =
-          let why-is : sheet.Refused why ≡ sheet.Refused y = e ∙ ap (sheet_by s) q in
+          let why-is : Err why ≡ Err y = e ∙ ap (sheet_by s) q in
           let same : why ≡ y = cc in
           let kept : new ≡ out = left ∙ ap (left_by s out) q in
           (rw (q, kept, same), kept)
 
   -- r and last are what the writer of the line answered and left
-  pub printed_refused : (why : Refusal) (r : ℕ) (last : List ℕ) → sheet.Refused why ≡ sheet_answer s out → r ≡ length (fitting (refused_bytes why) new) → last ≡ over (fitting (refused_bytes why) new) new
+  pub printed_refused : (why : Refusal) (r : ℕ) (last : List ℕ) → Err why ≡ sheet_answer s out → r ≡ length (fitting (refused_bytes why) new) → last ≡ over (fitting (refused_bytes why) new) new
       → (r ≡ length (printed_in s out)) × (last ≡ over (printed_in s out) out)
   printed_refused why r last e f g =
       let p = refused_text why e in

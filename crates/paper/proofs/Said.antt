@@ -1,11 +1,12 @@
 -- The sheet and the score by what is said of the events alone, and a walk over the lines, at i. Assumes nothing.
-use Rattle.std.specs.Prelude.{◌≡◌, ℕ, suc, ◌+◌, ◌<◌, ◌≤◌, Bool, true, false, cond, List, [], ◌∷◌, ◌++◌, length, get_or, drop}
+use Rattle.std.specs.Prelude.{◌≡◌, ℕ, suc, ◌+◌, ◌<◌, ◌≤◌, Bool, true, false, cond, List, [], ◌∷◌, ◌++◌, length, get_or, drop, min, Ok, Err}
 use mathlib.Core.Path.{refl, ap, ◌∙◌}
 use native.Mathlib.Numerals.{add-one}
 use native.Mathlib.Omega.{arith}
 use lib.ListN.{drop_of_length-le}
 use lib.Seq.{drop-cons}
-use Rattle.limits.specs.declared.refusal.Refusal.TheVariants.{ColumnSize}
+use mathlib.Core.Logic.{◌⊎◌, inl, inr}
+use Rattle.std.proofs.lemmas.Bool.{cases_lt}
 use Rattle.limits.specs.declared.refusal.Verdict.{Verdict}
 use Rattle.limits.specs.declared.refusal.Verdict.TheVariants as verdict
 use Rattle.rate.specs.declared.types.RateController.{RateController}
@@ -14,7 +15,6 @@ use Rattle.rate.specs.Calls.{Call, step}
 use Rattle.question.specs.File.{event_count}
 use Rattle.question.proofs.Over.{Next}
 use Rattle.question.proofs.Ranges.{length_tabulate}
-use Rattle.paper.specs.declared.types.Line.TheVariants.{Answered, Refused}
 use Rattle.paper.specs.Sheet.{Line, Score, call_at, calls_of, line_by, line_of, line_bytes, lines_from, sheet_of, scored_by, scored, score_from, score_of}
 use Rattle.paper.specs.bridges.Said.{said_from, said, text_from, scored_line, score_lines}
 
@@ -55,26 +55,32 @@ pub said_length : (s : List ℕ) → length (said s) ≡ event_count s
 unfolding said calls_of
 said_length s = said_from_length _ (calls_of s) ∙ length_tabulate (event_count s) 0 (call_at s)
 
--- ---- at i: the i-th line, with any default
-abbrev pub line_at : List Line → ℕ → Line
-line_at ls i = get_or ls i (Refused ColumnSize)
+-- ---- at i: the i-th line, with any default d
+score_none : (m : Score) (ls : List Line) → score_lines m ls [] ≡ m
+unfolding score_lines
+score_none m [] = refl
+score_none m (l ∷ ls) = refl
 
 module _ (ls : List Line) (i : ℕ) where
-  pub text_next : (e : ℕ) → i < length ls → Next (text_from e (drop i ls)) (line_bytes e (line_at ls i)) (text_from (e + 1) (drop (i + 1) ls))
+  pub text_next : (d : Line) (e : ℕ) → i < length ls → Next (text_from e (drop i ls)) (line_bytes e (get_or ls i d)) (text_from (e + 1) (drop (i + 1) ls))
   unfolding text_from
-  text_next e h = record { is = rw (drop-cons ls i (Refused ColumnSize) h, add-one e, add-one i) refl }
+  text_next d e h = record { is = rw (drop-cons ls i d h, add-one e, add-one i) refl }
 
   pub text_end : (e : ℕ) → length ls ≤ i → text_from e (drop i ls) ≡ []
   unfolding text_from
   text_end e h = rw (drop_of_length-le ls h) refl
 
-  pub score_next : (m : Score) (xs : List ℕ) → i < length ls → i < length xs → score_lines (scored_line m (line_at ls i) (get_or xs i 0)) (drop (i + 1) ls) (drop (i + 1) xs) ≡ score_lines m (drop i ls) (drop i xs)
+  pub score_next : (m : Score) (xs : List ℕ) (d : Line) (x : ℕ) → i < length ls → i < length xs → score_lines (scored_line m (get_or ls i d) (get_or xs i x)) (drop (i + 1) ls) (drop (i + 1) xs) ≡ score_lines m (drop i ls) (drop i xs)
   unfolding score_lines
-  score_next m xs h g = rw (drop-cons ls i (Refused ColumnSize) h, drop-cons xs i 0 g, add-one i) refl
+  score_next m xs d x h g = rw (drop-cons ls i d h, drop-cons xs i x g, add-one i) refl
 
-  pub score_end : (m : Score) (xs : List ℕ) → length ls ≤ i → score_lines m (drop i ls) xs ≡ m
+  pub score_end : (m : Score) (xs : List ℕ) → min (length ls) (length xs) ≤ i → score_lines m (drop i ls) (drop i xs) ≡ m
   unfolding score_lines
-  score_end m xs h = rw (drop_of_length-le ls h) refl
+  score_end m xs h = by (cases_lt i (length ls))
+    where
+      by : (i < length ls) ⊎ (length ls ≤ i) → score_lines m (drop i ls) (drop i xs) ≡ m
+      by (inl g) = let past : length xs ≤ i = omega arith in rw (drop_of_length-le xs past) (score_none m (drop i ls))
+      by (inr g) = rw (drop_of_length-le ls g) refl
 
 plus_bit : (b : Bool) (n : ℕ) → n + cond b 1 0 ≤ n + 1
 plus_bit true n = omega arith
@@ -82,5 +88,5 @@ plus_bit false n = omega arith
 
 -- an answer adds at most one
 pub scored_most : (m : Score) (l : Line) (x : ℕ) (r : Score) → r ≡ scored_line m l x → (r.right ≤ m.right + 1) × (r.counted ≤ m.counted + 1)
-scored_most m (Answered choice tried ofdm ended begun) x r e = rw e (search plus_bit, omega arith)
-scored_most m (Refused why) x r e = rw e (omega arith)
+scored_most m (Ok o) x r e = rw e (search plus_bit, omega arith)
+scored_most m (Err why) x r e = rw e (omega arith)

@@ -1,37 +1,27 @@
 -- The sheet of a question file, as the list of its bytes, and its marking: what the two calls return and leave, refused or not. Definitions only.
-use Rattle.std.specs.Prelude.{ℕ, suc, ◌+◌, Bool, true, false, cond, List, [], ◌∷◌, ◌++◌, length, ◌==◌, nat_le}
+use Rattle.std.specs.Prelude.{ℕ, suc, ◌+◌, Bool, true, false, cond, List, [], ◌∷◌, ◌++◌, length, ◌==◌, nat_le, Result, Ok, Err}
 use Rattle.limits.specs.Refusals.{refusal_number, unless, or_else}
 use Rattle.limits.specs.declared.refusal.Refusal.{Refusal}
 use Rattle.limits.specs.declared.refusal.Refusal.TheVariants.{SheetRoom, AnswerCount}
 use Rattle.limits.specs.declared.refusal.Verdict.{Verdict}
 use Rattle.limits.specs.declared.refusal.Verdict.TheVariants.{Accepted, Refused}
 use Rattle.ladder.specs.Lists.{tabulate}
-use Rattle.ladder.specs.Tables.{table_of, for_air}
-use Rattle.ladder.specs.Airs.{wide_air, narrow_air}
 use Rattle.rules.specs.Echo.{refuses}
 use Rattle.rate.specs.declared.types.RateController.{RateController}
 use Rattle.rate.specs.declared.types.Answer.{Answer}
 use Rattle.rate.specs.declared.types.Probing.{Probing}
 use Rattle.rate.specs.declared.types.Probing.TheVariants.{Nothing, At}
-use Rattle.rate.specs.Calls.{Call, fresh_controller, step}
+use Rattle.rate.specs.Calls.{Call, step}
 use Rattle.rate.specs.Reads.{choice_of, probing_of}
 use Rattle.question.specs.Body.{call_of}
 use Rattle.question.specs.File.{event_count, air, body_at, file_verdict}
+use Rattle.question.specs.Start.{fresh_for}
 use Rattle.paper.specs.Lines.{Cell, Number, Dash, Word, row_of}
 use Rattle.question.specs.Over.{over}
-pub use Rattle.paper.specs.declared.types.Line.{Line}
+pub use Rattle.paper.specs.declared.types.Outcome.{Outcome}
 pub use Rattle.paper.specs.declared.types.Score.{Score}
-pub use Rattle.paper.specs.declared.types.Sheet.{Sheet}
-pub use Rattle.paper.specs.declared.types.Marked.{Marked}
-use Rattle.paper.specs.declared.types.Line.TheVariants as line
-use Rattle.paper.specs.declared.types.Sheet.TheVariants as sheet
-use Rattle.paper.specs.declared.types.Marked.TheVariants as marked
 
--- ---- the controller, and the calls of the events
--- "starts a fresh controller with the air's tables, .. and `for_air`"
-unfoldable pub fresh_for : ℕ → RateController
-fresh_for n = cond (n == 1) (fresh_controller (for_air (table_of wide_air) true)) (fresh_controller (for_air (table_of narrow_air) false))
-
+-- ---- the calls of the events
 unfoldable pub call_at : List ℕ → ℕ → Call
 call_at s i = call_of (body_at s i)
 
@@ -44,9 +34,13 @@ abbrev pub ofdm_refused : RateController → Bool
 ofdm_refused k = refuses k.table k.state k.table.air.floors
 
 -- what is said of an event: choice, tried rung, OFDM refused, ended and begun, or its refusal
+abbrev pub Line : Type 0
+Line = Result Outcome Refusal
+
 abbrev pub line_by : Answer → Verdict → Line
-line_by a Accepted = line.Answered (choice_of a.controller) (probing_of a.controller) (ofdm_refused a.controller) a.ended a.begun
-line_by a (Refused why) = line.Refused why
+line_by a Accepted =
+    Ok (record { choice = choice_of a.controller; tried = probing_of a.controller; ofdm_refused = ofdm_refused a.controller; ended = a.ended; begun = a.begun })
+line_by a (Refused why) = Err why
 
 unfoldable pub line_of : Answer → Line
 line_of a = line_by a a.verdict
@@ -63,9 +57,8 @@ flag_cell false = Number 0
 
 -- "event (from 1), choice, tried rung or `-`, OFDM refused, ended, begun; or event, `refused`, number"
 abbrev pub cells_of : ℕ → Line → List Cell
-cells_of event (line.Answered choice tried ofdm ended begun) =
-    Number event ∷ Number choice.0 ∷ tried_cell tried ∷ flag_cell ofdm ∷ flag_cell ended ∷ flag_cell begun ∷ []
-cells_of event (line.Refused why) = Number event ∷ Word ∷ Number (refusal_number why) ∷ []
+cells_of event (Ok o) = Number event ∷ Number o.choice.0 ∷ tried_cell o.tried ∷ flag_cell o.ofdm_refused ∷ flag_cell o.ended ∷ flag_cell o.begun ∷ []
+cells_of event (Err why) = Number event ∷ Word ∷ Number (refusal_number why) ∷ []
 
 unfoldable pub line_bytes : ℕ → Line → List ℕ
 line_bytes event l = row_of (cells_of event l)
@@ -95,11 +88,11 @@ unfoldable pub sheet_verdict : List ℕ → List ℕ → Verdict
 sheet_verdict s out = or_else (file_verdict s) (room_verdict s out)
 
 -- "The library call returns the sheet's length"
-abbrev pub sheet_by : List ℕ → Verdict → Sheet
-sheet_by s Accepted = sheet.Written (length (sheet_of s))
-sheet_by s (Refused why) = sheet.Refused why
+abbrev pub sheet_by : List ℕ → Verdict → Result ℕ Refusal
+sheet_by s Accepted = Ok (length (sheet_of s))
+sheet_by s (Refused why) = Err why
 
-unfoldable pub sheet_answer : List ℕ → List ℕ → Sheet
+unfoldable pub sheet_answer : List ℕ → List ℕ → Result ℕ Refusal
 sheet_answer s out = sheet_by s (sheet_verdict s out)
 
 -- "bytes of the output slice past the sheet stay"; refused: "Left as it was: output slice"
@@ -149,9 +142,9 @@ score_of s answers = score_from (record { right = 0; counted = 0 }) (fresh_for (
 unfoldable pub mark_verdict : List ℕ → List ℕ → Verdict
 mark_verdict s answers = or_else (file_verdict s) (unless (length answers == event_count s) AnswerCount)
 
-abbrev pub marked_by : List ℕ → List ℕ → Verdict → Marked
-marked_by s answers Accepted = marked.Scored (score_of s answers)
-marked_by s answers (Refused why) = marked.Refused why
+abbrev pub marked_by : List ℕ → List ℕ → Verdict → Result Score Refusal
+marked_by s answers Accepted = Ok (score_of s answers)
+marked_by s answers (Refused why) = Err why
 
-unfoldable pub mark_answer : List ℕ → List ℕ → Marked
+unfoldable pub mark_answer : List ℕ → List ℕ → Result Score Refusal
 mark_answer s answers = marked_by s answers (mark_verdict s answers)

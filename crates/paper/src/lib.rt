@@ -2,13 +2,9 @@
 // controller, the sheet that is printed from their outcomes, and the marking of answers by them.
 #![tactic(auto)]
 
-mod frames;
 mod lines;
 pub mod mark;
-mod outcome;
-mod player;
 mod run;
 pub mod sheet;
-mod start;
 mod text;
 pub mod types;

@@ -1,90 +1,61 @@
-// The one run of a paper: the loop over a file's events, in place, which leaves the outcome of each.
-ghost use Rattle.std.specs.Prelude.{◌≡◌, ◌*◌, ◌≤◌, [], length};
-ghost use Rattle.account.specs.State.{unpriced};
-ghost use Rattle.rate.specs.Reads.{probing_in};
-ghost use Rattle.steps.specs.bridges.Held.{Lent, laid};
-ghost use Rattle.rate.specs.bridges.Playing.{answer_of};
+// The one run of a paper: the loop over a file's events, in place on one player, which leaves the line of each.
+ghost use Rattle.std.specs.Prelude.{◌≡◌, length};
+ghost use Rattle.rate.specs.bridges.Replies.{answer_of};
 ghost use Rattle.question.specs.File.{event_count};
-ghost use Rattle.question.specs.Over.{over};
-ghost use Rattle.paper.specs.Sheet.{line_of};
+ghost use Rattle.paper.specs.Sheet.{ofdm_refused, line_of};
 ghost use Rattle.paper.specs.bridges.Said.{said};
-ghost use Rattle.paper.specs.bridges.Outcomes.{outcomes_of};
 
-use crate::outcome::{outcome_of, put_outcome};
-use crate::player::{play_event, prices_after};
-use crate::start::table_of;
-use crate::types::Line;
-use account::state::PROBE_EVERY;
-use account::types::Trying;
-use ladder::types::Air;
+use crate::types::{Line, Outcome};
+use ladder::types::Rung;
 use limits::refusal::Verdict;
+use question::event::play;
 use question::file::air;
-use question::reader::{read_body, read_end};
-use rate::types::Probing;
-use steps::types::Moved;
+use question::reader::Reader;
+use question::start::fresh_for;
+use rate::player::Player;
+use rate::types::{Probing, RateController, Reply};
 
-// Whether a try runs, and of which rung.
-fn tried_of(y: Trying) -> Probing
-    ensures { result ≡ probing_in y }
+// Whether every OFDM rung is refused: the first one is past the floor rungs, and what is said of it is said of all.
+fn refuses_ofdm(k: &RateController) -> bool
+    ensures { result ≡ ofdm_refused k.now }
 {
-    match y {
-        Trying::Nothing => Probing::Nothing,
-        Trying::Running(r, _, _) => Probing::At(r),
-    }
+    k.refuses(Rung(k.table.air.floors))
 }
 
 // What an event's line says of what its call left and returned.
-fn line_of(t: Air, reals: &[f64], wholes: &[u32], m: Moved) -> Line
-    requires { Lent reals.now wholes.now }
-    ensures { result ≡ line_of (answer_of (laid t reals.now wholes.now) unpriced [] [] [] m) }
+#[tactic(auto, unfolding(crate::specs::Sheet::line_of))]
+fn line_of(k: &RateController, reply: Reply) -> Line
+    ensures { result ≡ line_of (answer_of k.now reply) }
 {
-    let verdict = m.verdict;
-    match verdict {
-        Verdict::Accepted => {
-            let c = m.core;
-            let place = c.place;
-            let trying = c.trying;
-            let choice = steps::read::rung_in(wholes, place);
-            let tried = tried_of(trying);
-            let ofdm = steps::echo::refuses_ofdm(t, reals, wholes, c);
-            Line::Answered(choice, tried, ofdm, m.ended, m.begun)
-        }
-        Verdict::Refused(why) => Line::Refused(why),
+    match reply.verdict {
+        Verdict::Accepted => Ok(Outcome {
+            choice: k.choice(),
+            tried: k.probing(),
+            ofdm_refused: refuses_ofdm(k),
+            ended: reply.ended,
+            begun: reply.begun,
+        }),
+        Verdict::Refused(why) => Err(why),
     }
 }
 
-// The outcomes of a file's events, one after the other at the start of the slice, in which they have room.
-pub(crate) fn run(file: &[u8], log: &mut [u32])
-    requires { 3 * event_count file.now ≤ length log.old }
-    ensures { log.new ≡ over (outcomes_of (said file.now)) log.old }
+// What stands in a line's place before the run: all its bytes are 0, so that an array of it is sooner made.
+pub(crate) const NO_LINE: Line = Ok(Outcome {
+    choice: Rung(0),
+    tried: Probing::Nothing,
+    ofdm_refused: false,
+    ended: false,
+    begun: false,
+});
+
+// The lines of a file's events, one for each place of the slice.
+pub(crate) fn run(file: &[u8], lines: &mut [Line])
+    requires { length lines.old ≡ event_count file.now }
+    ensures { lines.new ≡ said file.now }
 {
-    let table = table_of(air(file));
-    let t = table.air;
-    let mut reals = [0.0f64; 96];
-    let mut wholes = [0u32; 96];
-    steps::read::lay_table(table, &mut reals, &mut wholes);
-    let mut fades = [0.0f64; 96];
-    let mut books = [0.0f64; 96];
-    let mut since = [0.0f64; 32];
-    let mut wait = [PROBE_EVERY; 32];
-    let mut c = account::cores::fresh_core();
-    let mut p = account::state::unpriced_prices();
-    let mut last = 0.0;
-    let mut at: usize = 0;
-    let mut i: u32 = 0;
-    while !read_end(file, i) {
-        let body = read_body(file, i);
-        let a = play_event(
-            t, p, &reals, &wholes, &mut fades, &mut books, &mut since, &mut wait, c, last, body,
-        );
-        let m = a.moved;
-        let o = outcome_of(line_of(t, &reals, &wholes, m));
-        put_outcome(&mut log[at..], o);
-        at += 3;
-        p = prices_after(p, body);
-        let next = m.core;
-        c = account::cores::same_core(next);
-        last = a.faded;
-        i += 1;
+    let mut player = Player::new(fresh_for(air(file)));
+    for (i, body) in Reader::new(file).enumerate() {
+        let reply = play(&mut player, body);
+        lines[i] = line_of(player.controller(), reply);
     }
 }

@@ -1,102 +1,83 @@
-// The sheet of a question file: its events are run once, and its lines printed from their outcomes. How long they are is known before a byte is written.
-ghost use Rattle.std.specs.Prelude.{◌≡◌, ◌≤◌, length};
+// The sheet of a question file: its events are run once, and what is said of them is printed. How long the lines are is known before a byte is written.
+ghost use Rattle.std.specs.Prelude.{◌≡◌, ◌≤◌, length, IfOk};
 ghost use Rattle.question.specs.File.{event_count};
 ghost use Rattle.question.specs.Over.{over};
-ghost use Rattle.paper.specs.Sheet.{sheet_of, room_verdict, sheet_by, sheet_answer, left_by, sheet_left, refused_bytes, fitting, printed_in};
-ghost use Rattle.paper.specs.bridges.Outcomes.{Logged};
+ghost use Rattle.paper.specs.Sheet.{room_verdict, sheet_by, sheet_answer, left_by, sheet_left, refused_bytes, fitting, printed_in};
+ghost use Rattle.paper.specs.bridges.Said.{text_from};
 
 use crate::lines::{line_length, refused_length, write_line, write_refused};
-use crate::outcome::outcome_at;
-use crate::run::run;
-use crate::types::Sheet;
+use crate::run::{NO_LINE, run};
+use crate::types::Line;
 use limits::refusal::{Refusal, Verdict};
 use question::file::event_count;
 use question::verdict::file_verdict;
 
-// The sheet's length.
-fn measure_lines(file: &[u8], log: &[u32]) -> usize
-    requires { Logged file.now log.now }
-    ensures { result ≡ length (sheet_of file.now) }
+// How long the lines are.
+fn measure_lines(lines: &[Line]) -> usize
+    requires { length lines.now ≤ 1000 }
+    ensures { result ≡ length (text_from 1 lines.now) }
 {
-    let mut len: usize = 0;
-    for i in 0..event_count(file) {
-        let o = outcome_at(log, 3 * (i as usize));
-        len += line_length(i + 1, o);
+    let mut len = 0;
+    for (i, line) in lines.iter().enumerate() {
+        len += line_length(i as u32 + 1, *line);
     }
     len
 }
 
-// The sheet at the start of the slice, in which it has room: each line goes after the bytes already written. Returns its length.
-fn write_lines(file: &[u8], log: &[u32], out: &mut [u8]) -> usize
-    requires logged { Logged file.now log.now }
-    requires file_in_bounds { length (sheet_of file.now) ≤ length out.old }
-    ensures value { result ≡ length (sheet_of file.now) }
-    ensures out_after { out.new ≡ over (sheet_of file.now) out.old }
+// The lines at the start of the slice, in which they have room: each goes after the bytes already written. Returns how many bytes they took.
+fn write_lines(lines: &[Line], out: &mut [u8]) -> usize
+    requires few { length lines.now ≤ 1000 }
+    requires room { length (text_from 1 lines.now) ≤ length out.old }
+    ensures value { result ≡ length (text_from 1 lines.now) }
+    ensures out_after { out.new ≡ over (text_from 1 lines.now) out.old }
 {
-    let mut len: usize = 0;
-    for i in 0..event_count(file) {
-        let o = outcome_at(log, 3 * (i as usize));
-        let took = write_line(&mut out[len..], i + 1, o);
-        len += took;
+    let mut len = 0;
+    for (i, line) in lines.iter().enumerate() {
+        len += write_line(&mut out[len..], i as u32 + 1, *line);
     }
     len
 }
 
-// The sheet of a file whose events were run, if it has room.
-fn fit_sheet(file: &[u8], log: &[u32], out: &mut [u8]) -> Sheet
-    requires { Logged file.now log.now }
+// The sheet of a file of at most N events, if it has room.
+fn sheet_in<const N: usize>(file: &[u8], out: &mut [u8]) -> Result<usize, Refusal>
+    requires room { event_count file.now ≤ N }
+    requires small { N ≤ 1000 }
     ensures value { result ≡ sheet_by file.now (room_verdict file.now out.old) }
     ensures out_after { out.new ≡ left_by file.now out.old (room_verdict file.now out.old) }
+    ensures within { IfOk result (λ len. len ≤ length out.old) }
 {
-    if measure_lines(file, log) > out.len() {
-        return Sheet::Refused(Refusal::SheetRoom);
+    let mut room = [NO_LINE; N];
+    let lines = &mut room[..event_count(file) as usize];
+    run(file, lines);
+    if measure_lines(lines) > out.len() {
+        return Err(Refusal::SheetRoom);
     }
-    Sheet::Written(write_lines(file, log, out))
+    Ok(write_lines(lines, out))
 }
 
-// The same of a file of few events, which are still to be run: a short array is sooner made.
-fn short_sheet(file: &[u8], out: &mut [u8]) -> Sheet
-    requires { event_count file.now ≤ 50 }
-    ensures value { result ≡ sheet_by file.now (room_verdict file.now out.old) }
-    ensures out_after { out.new ≡ left_by file.now out.old (room_verdict file.now out.old) }
-{
-    let mut log = [0u32; 150];
-    run(file, &mut log);
-    fit_sheet(file, &log, out)
-}
-
-// The same of a file of as many events as there may be.
-fn long_sheet(file: &[u8], out: &mut [u8]) -> Sheet
+// The sheet of an accepted file. Fewer events are run in a shorter array, which is sooner made.
+fn run_sheet(file: &[u8], out: &mut [u8]) -> Result<usize, Refusal>
     requires { event_count file.now ≤ 1000 }
     ensures value { result ≡ sheet_by file.now (room_verdict file.now out.old) }
     ensures out_after { out.new ≡ left_by file.now out.old (room_verdict file.now out.old) }
+    ensures within { IfOk result (λ len. len ≤ length out.old) }
 {
-    let mut log = [0u32; 3000];
-    run(file, &mut log);
-    fit_sheet(file, &log, out)
-}
-
-// The same of an accepted file.
-fn run_sheet(file: &[u8], out: &mut [u8]) -> Sheet
-    requires { event_count file.now ≤ 1000 }
-    ensures value { result ≡ sheet_by file.now (room_verdict file.now out.old) }
-    ensures out_after { out.new ≡ left_by file.now out.old (room_verdict file.now out.old) }
-{
-    if event_count(file) <= 50 {
-        return short_sheet(file, out);
+    match event_count(file) {
+        0..=50 => sheet_in::<50>(file, out),
+        51..=250 => sheet_in::<250>(file, out),
+        _ => sheet_in::<1000>(file, out),
     }
-    long_sheet(file, out)
 }
 
 // The sheet of a question file, at the start of the slice. Refused: 10, 11, 12, 13, and the slice is left as it was.
-pub fn sheet(question: &[u8], out: &mut [u8]) -> Sheet
+pub fn sheet(question: &[u8], out: &mut [u8]) -> Result<usize, Refusal>
     ensures value { result ≡ sheet_answer question.now out.old }
     ensures out_after { out.new ≡ sheet_left question.now out.old }
+    ensures within { IfOk result (λ len. len ≤ length out.old) }
 {
-    let verdict = file_verdict(question);
-    match verdict {
+    match file_verdict(question) {
         Verdict::Accepted => run_sheet(question, out),
-        Verdict::Refused(why) => Sheet::Refused(why),
+        Verdict::Refused(why) => Err(why),
     }
 }
 
@@ -104,22 +85,22 @@ pub fn sheet(question: &[u8], out: &mut [u8]) -> Sheet
 fn print_refused(out: &mut [u8], why: Refusal) -> usize
     ensures value { result ≡ length (fitting (refused_bytes why) out.old) }
     ensures out_after { out.new ≡ over (fitting (refused_bytes why) out.old) out.old }
+    ensures within { result ≤ length out.old }
 {
-    let n = why.number();
-    if refused_length(n) > out.len() {
+    if refused_length(why) > out.len() {
         return 0;
     }
-    write_refused(out, n)
+    write_refused(out, why)
 }
 
 // What the program prints of a question file, at the start of the slice: the sheet, or the line of a refused file. Returns how many bytes it took.
 pub fn print_sheet(question: &[u8], out: &mut [u8]) -> usize
     ensures value { result ≡ length (printed_in question.now out.old) }
     ensures out_after { out.new ≡ over (printed_in question.now out.old) out.old }
+    ensures within { result ≤ length out.old }
 {
-    let answer = sheet(question, out);
-    match answer {
-        Sheet::Written(len) => len,
-        Sheet::Refused(why) => print_refused(out, why),
+    match sheet(question, out) {
+        Ok(len) => len,
+        Err(why) => print_refused(out, why),
     }
 }

@@ -4,77 +4,22 @@ ghost use Rattle.std.specs.Prelude.{◌≡◌, ◌≤◌, length};
 ghost use Rattle.question.specs.Over.{over};
 ghost use Rattle.paper.specs.Lines.{Number, decimal, ended};
 
-// A number in decimal, of any length.
-fn write_decimal(out: &mut [u8], n: u32) -> usize
-    requires { length (decimal n) ≤ length out.old }
-    ensures value { result ≡ length (decimal n) }
-    ensures out_after { out.new ≡ over (decimal n) out.old }
+// How many digits a number has.
+pub(crate) fn digits_of(n: u32) -> usize
+    ensures { (result ≡ length (decimal n)) × (result ≤ 10) }
 {
-    if n < 10 {
-        out[0] = 48 + n as u8;
-        return 1;
-    }
-    let k = write_decimal(out, n / 10);
-    out[k] = 48 + (n % 10) as u8;
-    k + 1
+    if n < 10 { 1 } else { digits_of(n / 10) + 1 }
 }
 
-// The same, and faster for the numbers of a sheet, which have at most three digits but for the last event's.
+// A number in decimal.
 fn write_number(out: &mut [u8], n: u32) -> usize
     requires { length (decimal n) ≤ length out.old }
     ensures value { result ≡ length (decimal n) }
     ensures out_after { out.new ≡ over (decimal n) out.old }
 {
-    if n < 10 {
-        out[0] = 48 + n as u8;
-        return 1;
-    }
-    if n < 100 {
-        out[0] = 48 + (n / 10) as u8;
-        out[1] = 48 + (n % 10) as u8;
-        return 2;
-    }
-    if n < 1000 {
-        out[0] = 48 + (n / 100) as u8;
-        out[1] = 48 + (n / 10 % 10) as u8;
-        out[2] = 48 + (n % 10) as u8;
-        return 3;
-    }
-    write_decimal(out, n)
-}
-
-// How many digits a number has.
-pub(crate) fn digits_of(n: u32) -> usize
-    ensures { (result ≡ length (decimal n)) × (result ≤ 10) }
-{
-    if n < 10 {
-        return 1;
-    }
-    if n < 100 {
-        return 2;
-    }
-    if n < 1000 {
-        return 3;
-    }
-    if n < 10000 {
-        return 4;
-    }
-    if n < 100000 {
-        return 5;
-    }
-    if n < 1000000 {
-        return 6;
-    }
-    if n < 10000000 {
-        return 7;
-    }
-    if n < 100000000 {
-        return 8;
-    }
-    if n < 1000000000 {
-        return 9;
-    }
-    10
+    let len = digits_of(n);
+    itoa::write_digits(n as u64, out, len);
+    len
 }
 
 // A number and the byte after it.
@@ -94,8 +39,6 @@ pub(crate) fn write_bytes(out: &mut [u8], src: &[u8]) -> usize
     ensures value { result ≡ length src.now }
     ensures out_after { out.new ≡ over src.now out.old }
 {
-    for i in 0..src.len() {
-        out[i] = src[i];
-    }
+    out[..src.len()].copy_from_slice(src);
     src.len()
 }

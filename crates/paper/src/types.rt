@@ -2,20 +2,21 @@
 use ladder::types::Rung;
 use limits::refusal::Refusal;
 use rate::types::Probing;
+use std::fmt;
+use std::fmt::{Display, Formatter, Write};
 
-// What a line says of an event, beside its number: choice, tried rung, OFDM refused, ended and begun, or why it was refused.
+// What a line says of an event that is accepted, beside its number.
 #[derive(Clone, Copy)]
-pub enum Line {
-    Answered(Rung, Probing, bool, bool, bool),
-    Refused(Refusal),
+pub struct Outcome {
+    pub choice: Rung,
+    pub tried: Probing,
+    pub ofdm_refused: bool,
+    pub ended: bool,
+    pub begun: bool,
 }
 
-// What the sheet call answers: the sheet's length, or why it was refused.
-#[derive(Clone, Copy)]
-pub enum Sheet {
-    Written(usize),
-    Refused(Refusal),
-}
+// What a line says of an event: its outcome, or why it was refused.
+pub type Line = Result<Outcome, Refusal>;
 
 // How many answers are right, of those that count.
 #[derive(Clone, Copy)]
@@ -24,9 +25,8 @@ pub struct Score {
     pub counted: u32,
 }
 
-// What marking answers.
-#[derive(Clone, Copy)]
-pub enum Marked {
-    Scored(Score),
-    Refused(Refusal),
+impl Display for Score {
+    fn fmt<W: Write>(&self, f: &mut Formatter<W>) -> fmt::Result {
+        write!(f, "{} {}", self.right, self.counted)
+    }
 }

@@ -1,29 +1,37 @@
 -- The lists of a body by their entries: how many there are, and what stands at each. Assumes nothing.
-use mathlib.Core.Path.{◌≡◌, sym, ◌∙◌}
-use mathlib.Core.Bool.{Bool, true, false}
+use mathlib.Core.Path.{◌≡◌, sym, ap, ◌∙◌}
+use mathlib.Core.Bool.{Bool}
 use mathlib.Core.List.{List}
-use Prim.Native.Nat.{ℕ, ◌+◌, ◌*◌, ◌<◌, ◌≤◌, min}
+use Prim.Native.Nat.{ℕ, ◌+◌, ◌*◌, ◌<◌, ◌≤◌}
 use native.Mathlib.Nat.{zero-add}
 use native.Mathlib.Omega.{arith}
-use borrow.Author.Tests.{lt-ltb, le-ltb, le-leb, lt-leb}
-use lib.ListN.{length, get_or, drop, take, set, length-replicate}
-use Rattle.ladder.specs.Lists.{every}
+use lib.Dec.{ltb, leb}
+use lib.ListN.{length, get_or, drop, take}
+use Rattle.std.proofs.lemmas.List.{get_or-take, get_or_past}
+use Rattle.std.specs.List.{list_all}
+use Rattle.ladder.specs.Lists.{every, tabulate}
 use Rattle.limits.specs.Values.{ok_burst}
 use Rattle.rules.specs.declared.types.Frame.{Frame}
 use Rattle.question.specs.Bytes.{byte, le16}
-use Rattle.question.specs.Body.{all_from, frame_count, frame_bytes, ok_flags, frame_of, frame_at, frames_in, burst_count, burst_at, bursts_in, no_frame, no_frames, no_bursts}
-use Rattle.question.specs.Over.{over}
-use Rattle.question.proofs.Over.{Over, copy_next, copy_end}
-use Rattle.question.proofs.Ranges.{length_tabulate, tabulate_at, every_tabulate}
+use Rattle.question.specs.Body.{all_from, frame_count, frame_bytes, ok_flags, frame_of, frame_at, frames_in, burst_count, burst_at, bursts_in, first_of}
+use Rattle.question.proofs.Over.{over_filled}
+use Rattle.question.proofs.Chunks.{chunk}
+use Rattle.question.proofs.Ranges.{length_tabulate, tabulate_at, every_tabulate, all_tabulate, all_same}
 
--- ---- flags: r is the flags' byte of the i-th frame, as a call gave it
-pub flags_good : (b : List ℕ) (i r : ℕ) → r ≡ byte (frame_bytes b i) 1 → r < 8 → ok_flags b i ≡ true
-unfolding ok_flags
-flags_good b i r e h = rw (← e, lt-ltb r 8 h)
+-- ---- flags: of the frames as chunks of 12 bytes
+abbrev pub known_flags : List ℕ → Bool
+known_flags frame = ltb (byte frame 1) 8
 
-pub flags_bad : (b : List ℕ) (i r : ℕ) → r ≡ byte (frame_bytes b i) 1 → 8 ≤ r → ok_flags b i ≡ false
+pub flags_all : (b : List ℕ) → list_all known_flags (tabulate (frame_count b) 0 (chunk b 10 12)) ≡ all_from (frame_count b) 0 (ok_flags b)
 unfolding ok_flags
-flags_bad b i r e h = rw (← e, le-ltb r 8 h)
+flags_all b =
+    all_tabulate (frame_count b) 0 (chunk b 10 12) known_flags
+    ∙ all_same (frame_count b) 0 _ _ (λ i. ap (λ f. ltb f 8) (get_or-take 12 (frame_bytes b i) 1 0 (omega arith)))
+
+-- ---- an array that has the entries of a list, and d past the last
+pub first_of_is : {A : Type 0} (d : A) (xs ys : List A) (n : ℕ) → length ys ≡ n → ((i : ℕ) → i < n → get_or ys i d ≡ get_or xs i d) → ys ≡ first_of n d xs
+unfolding first_of
+first_of_is d xs ys n h each = over_filled d xs n ys h each
 
 -- ---- frames
 pub length_frames : (b : List ℕ) → length (frames_in b) ≡ frame_count b
@@ -34,17 +42,8 @@ pub frame_at_lem : (b : List ℕ) (i : ℕ) (d : Frame) → i < frame_count b �
 unfolding frames_in frame_at
 frame_at_lem b i d h = tabulate_at (frame_count b) 0 i (frame_at b) d h ∙ rw zero-add
 
--- the frames of a body go one by one to an array, of whatever size m: the next one, as calls gave it, and the end
-module _ (b : List ℕ) (old new : List Frame) (i : ℕ) (o : Over (take i (frames_in b)) old i new) where
-  pub frame_next : (f : Frame) → i < frame_count b → i < length old → f ≡ frame_of (frame_bytes b i) → Over (take (i + 1) (frames_in b)) old (i + 1) (set new i f)
-  frame_next f h g e = copy_next (frames_in b) old new i no_frame f (omega (arith, length_frames b)) g (e ∙ sym (frame_at_lem b i no_frame h)) o
-
-  pub frames_end : (m : ℕ) → min m (frame_count b) ≤ i → i ≤ frame_count b → i ≤ m → new ≡ over (take m (frames_in b)) old
-  frames_end m h g k = copy_end (frames_in b) old new m i (omega (arith, length_frames b)) (omega (arith, length_frames b)) k o
-
-pub length_no_frames : length no_frames ≡ 256
-unfolding no_frames
-length_no_frames = length-replicate 256 no_frame
+pub frame_past : (b : List ℕ) (i : ℕ) (d : Frame) → frame_count b ≤ i → get_or (frames_in b) i d ≡ d
+frame_past b i d h = get_or_past (frames_in b) i d (omega (arith, length_frames b))
 
 -- ---- burst counts
 pub length_bursts : (b : List ℕ) → length (bursts_in b) ≡ burst_count b
@@ -55,22 +54,20 @@ pub burst_at_lem : (b : List ℕ) (i : ℕ) (d : ℕ) → i < burst_count b → 
 unfolding bursts_in burst_at
 burst_at_lem b i d h = tabulate_at (burst_count b) 0 i (burst_at b) d h ∙ rw zero-add
 
-pub length_no_bursts : length no_bursts ≡ 32
-unfolding no_bursts
-length_no_bursts = length-replicate {A = ℕ} 32 0
+pub burst_past : (b : List ℕ) (i : ℕ) (d : ℕ) → burst_count b ≤ i → get_or (bursts_in b) i d ≡ d
+burst_past b i d h = get_or_past (bursts_in b) i d (omega (arith, length_bursts b))
 
--- whether the i-th is within its limit
-abbrev pub ok_burst_at : List ℕ → ℕ → Bool
-ok_burst_at b i = ok_burst (burst_at b i)
+-- of the burst counts as chunks of 2 bytes
+abbrev pub known_burst : List ℕ → Bool
+known_burst count = leb (le16 count) 1000
 
-pub every_burst : (b : List ℕ) → every ok_burst (bursts_in b) ≡ all_from (burst_count b) 0 (ok_burst_at b)
-unfolding bursts_in
-every_burst b = every_tabulate (burst_count b) 0 (burst_at b) ok_burst
+le16_take : (s : List ℕ) → le16 (take 2 s) ≡ le16 s
+unfolding le16
+le16_take s = rw (get_or-take 2 s 0 0 (omega arith), get_or-take 2 s 1 0 (omega arith))
 
-pub burst_good : (b : List ℕ) (i r : ℕ) → r ≡ le16 (drop (25 + 2 * i) b) → r ≤ 1000 → ok_burst_at b i ≡ true
-unfolding burst_at
-burst_good b i r e h = rw (← e, le-leb r 1000 h)
-
-pub burst_bad : (b : List ℕ) (i r : ℕ) → r ≡ le16 (drop (25 + 2 * i) b) → 1000 < r → ok_burst_at b i ≡ false
-unfolding burst_at
-burst_bad b i r e h = rw (← e, lt-leb r 1000 h)
+pub bursts_all : (b : List ℕ) → list_all known_burst (tabulate (burst_count b) 0 (chunk b 25 2)) ≡ every ok_burst (bursts_in b)
+unfolding bursts_in burst_at
+bursts_all b =
+    all_tabulate (burst_count b) 0 (chunk b 25 2) known_burst
+    ∙ all_same (burst_count b) 0 _ _ (λ i. ap (λ n. leb n 1000) (le16_take (drop (25 + 2 * i) b)))
+    ∙ sym (every_tabulate (burst_count b) 0 (burst_at b) ok_burst)

@@ -2,14 +2,15 @@
 use mathlib.Core.Path.{◌≡◌, refl, sym, ap, ◌∙◌}
 use mathlib.Core.Bool.{Bool, true, false}
 use mathlib.Core.List.{List, [], ◌∷◌, ◌++◌, append_assoc, append-nil}
-use Prim.Native.Nat.{ℕ, ◌+◌, ◌-◌, ◌≤◌, ◌<◌, zero-le, min}
+use Prim.Native.Nat.{ℕ, ◌+◌, ◌-◌, ◌≤◌, ◌<◌, zero-le}
 use native.Mathlib.Numerals.{add-one}
 use native.Mathlib.Omega.{arith}
 use borrow.Author.Tests.{leb-true, leb-false}
 use lib.Dec.{leb}
-use lib.ListN.{length, get_or, take, drop, set, length-append, length-drop, drop_of_length-le}
+use lib.ListN.{length, get_or, take, drop, set, replicate, length-replicate, length-take, length-append, length-drop, drop_of_length-le}
 use lib.Seq.{take_all, take_at, take-suc, length-take-le, drop-cons, drop-drop, drop-append_seam, take-append_seam, set-append_seam}
 use borrow.Rule.Slice.PartMut.{put_mid, post_of}
+use Rattle.std.proofs.lemmas.List.{ext_get_or, get_or-replicate, get_or-append_right, get_or_append_left, get_or-drop, get_or-take, get_or_past}
 use Rattle.question.specs.Over.{over}
 
 pub over_length : {A : Type 0} (ds old : List A) → length ds ≤ length old → length (over ds old) ≡ length old
@@ -29,6 +30,26 @@ over_put z ds old v h = rw (drop-cons old (length ds) z, set-append_seam, length
 over_over : {A : Type 0} (ds es old : List A) → ds ++ over es (drop (length ds) old) ≡ over (ds ++ es) old
 unfolding over
 over_over ds es old = rw (drop-drop, length-append, append_assoc)
+
+-- a list of m entries that has those of another, and d past them
+module _ {A : Type 0} (d : A) (xs : List A) (m : ℕ) where
+  filled_read : (i : ℕ) → i < m → get_or (over (take m xs) (replicate m d)) i d ≡ get_or xs i d
+  unfolding over
+  filled_read i h = go (leb (length (take m xs)) i) refl
+    where
+      go : (b : Bool) → leb (length (take m xs)) i ≡ b → get_or (take m xs ++ drop (length (take m xs)) (replicate m d)) i d ≡ get_or xs i d
+      go true e =
+          let past : length (take m xs) ≤ i = leb-true _ i e in
+          get_or-append_right (take m xs) _ (length (take m xs)) i d refl past
+          ∙ get_or-drop (length (take m xs)) (replicate m d) (i - length (take m xs)) d
+          ∙ get_or-replicate m _ d d (omega arith)
+          ∙ sym (get_or_past xs i d (omega (arith, length-take m xs)))
+      go false e = get_or_append_left (take m xs) _ d i (leb-false _ i e) ∙ get_or-take m xs i d h
+
+  pub over_filled : (ys : List A) → length ys ≡ m → ((i : ℕ) → i < m → get_or ys i d ≡ get_or xs i d) → ys ≡ over (take m xs) (replicate m d)
+  over_filled ys h each =
+      let long : length (over (take m xs) (replicate m d)) ≡ m = over_length (take m xs) (replicate m d) (omega (arith, length-take m xs, length-replicate m d)) ∙ length-replicate m d in
+      ext_get_or d ys _ (h ∙ sym long) (λ i g. let k : i < m = omega arith in each i k ∙ sym (filled_read i k))
 
 -- ---- a list while it is written: new is old with ds over its start, and k is the next place
 pub record Over {A : Type 0} (ds old : List A) (k : ℕ) (new : List A) : Type 0 where
@@ -86,16 +107,6 @@ pub copy_next : {A : Type 0} (src old new : List A) (i : ℕ) (d v : A) → i < 
 copy_next src old new i d v h g e o =
     let l : length (take i src) ≡ i = length-take-le i src (omega arith) in
     rw (e, add-one i, take-suc src i d h) (rw (add-one i) at (put o (get_or src i d) (omega arith)))
-
--- once as many are copied as there are, or as m
-pub copy_end : {A : Type 0} (src old new : List A) (m i : ℕ) → min m (length src) ≤ i → i ≤ length src → i ≤ m → Over (take i src) old i new → new ≡ over (take m src) old
-copy_end src old new m i h g k o = go (leb m i) refl
-  where
-    go : (b : Bool) → leb m i ≡ b → new ≡ over (take m src) old
-    go true e = let q : i ≡ m = omega (arith, leb-true m i e) in o.is ∙ ap (λ j. over (take j src) old) q
-    go false e =
-        let q : length src ≤ i = omega (arith, leb-false m i e) in
-        o.is ∙ ap (λ xs. over xs old) (take_all i src q ∙ sym (take_all m src (omega (arith, leb-false m i e))))
 
 -- ---- a text that is written piece by piece
 -- what is left is a piece and more. (A record, so that antt finds the two from it, which it does not from an equation with `++`.)

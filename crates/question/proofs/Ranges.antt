@@ -1,37 +1,21 @@
--- A walk over the numbers from 0 up to n, at i: what is left is what passes from i on, and the list that is made from i on. Assumes nothing.
-use mathlib.Core.Path.{◌≡◌, refl, sym, ap, ◌∙◌}
-use mathlib.Core.Bool.{Bool, true, false, ◌&&◌}
+-- Tests of all the numbers from one up to another, and the list that is made of them. Assumes nothing.
+use mathlib.Core.Path.{◌≡◌, refl, ap, ◌∙◌}
+use mathlib.Core.Bool.{Bool}
 use mathlib.Core.List.{[], ◌∷◌}
 use Prim.Native.Nat.{ℕ, zero, suc, ◌+◌, ◌-◌, ◌≤◌, ◌<◌}
 use native.Mathlib.Numerals.{add-one}
 use native.Mathlib.Omega.{arith}
 use lib.ListN.{length, get_or}
+use Rattle.std.specs.List.{list_all}
 use Rattle.ladder.specs.Lists.{every, tabulate}
 use Rattle.question.specs.Body.{all_from}
 
--- ---- whether all pass: those below i do, so what is left decides
-pub record Passed (n i : ℕ) (f : ℕ → Bool) : Type 0 where
-  pub most : i ≤ n
-  pub left : all_from (n - i) i f ≡ all_from n 0 f
-
-pub passed_none : (n : ℕ) (f : ℕ → Bool) → Passed n 0 f
-passed_none n f = let q : n - 0 ≡ n = omega arith in record { most = omega arith; left = ap (λ m. all_from m 0 f) q }
-
-all_next : (n i : ℕ) (f : ℕ → Bool) (m : ℕ) → m ≡ n - i → i < n → all_from m i f ≡ (f i && all_from (n - (i + 1)) (i + 1) f)
+-- ---- whether all pass
+-- tests that agree at each number agree on all
+pub all_same : (n i : ℕ) (f g : ℕ → Bool) → ((j : ℕ) → f j ≡ g j) → all_from n i f ≡ all_from n i g
 unfolding all_from
-all_next n i f zero e h = absurd (omega arith)
-all_next n i f (suc m) e h = let q : m ≡ n - (i + 1) = omega arith in rw (← q, add-one)
-
-module _ {n i : ℕ} {f : ℕ → Bool} (p : Passed n i f) where
-  pub passed_next : i < n → f i ≡ true → Passed n (i + 1) f
-  passed_next h e = record { most = omega arith; left = sym (all_next n i f (n - i) refl h ∙ rw e) ∙ p.left }
-
-  pub passed_no : i < n → f i ≡ false → false ≡ all_from n 0 f
-  passed_no h e = sym (all_next n i f (n - i) refl h ∙ rw e) ∙ p.left
-
-  pub passed_all : n ≤ i → true ≡ all_from n 0 f
-  unfolding all_from
-  passed_all h = let q : n - i ≡ 0 = omega arith in rw q at p.left
+all_same zero i f g e = refl
+all_same (suc n) i f g e = rw (e i, all_same n (suc i) f g e)
 
 -- ---- the list that is made
 pub length_tabulate : {A : Type 0} (n i : ℕ) (f : ℕ → A) → length (tabulate n i f) ≡ n
@@ -47,6 +31,11 @@ pub every_tabulate : {A : Type 0} (n i : ℕ) (f : ℕ → A) (g : A → Bool) �
 unfolding all_from
 every_tabulate zero i f g = refl
 every_tabulate (suc n) i f g = rw (every_tabulate n (suc i) f g)
+
+pub all_tabulate : {A : Type 0} (n i : ℕ) (f : ℕ → A) (g : A → Bool) → list_all g (tabulate n i f) ≡ all_from n i (λ j. g (f j))
+unfolding all_from
+all_tabulate zero i f g = refl
+all_tabulate (suc n) i f g = rw (all_tabulate n (suc i) f g)
 
 -- what is left of it at i: at first all, then one less, in the end none
 module _ {A : Type 0} (f : ℕ → A) (n : ℕ) where

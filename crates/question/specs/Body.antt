@@ -1,15 +1,12 @@
 -- An event's body, as the list of its bytes: whether it has its kind's form, and the call that it stands for. Definitions only.
-use Rattle.std.specs.Prelude.{Bool, true, false, ◌&&◌, cond, List, ℕ, zero, suc, ◌+◌, ◌-◌, ◌*◌, ◌/◌, ◌%◌, min, leb, ltb, eqb, length, drop, take, replicate}
+use Rattle.std.specs.Prelude.{Bool, true, false, ◌&&◌, cond, List, ℕ, zero, suc, ◌+◌, ◌-◌, ◌*◌, ◌/◌, ◌%◌, leb, ltb, eqb, length, drop, take, replicate}
 use Rattle.float.specs.Numbers.{f0}
-use Rattle.limits.specs.Values.{ok_burst}
-use Rattle.ladder.specs.Lists.{every, tabulate}
+use Rattle.ladder.specs.Lists.{tabulate}
 use Rattle.ladder.specs.Types.{rung}
 use Rattle.rules.specs.declared.types.Frame.{Frame}
 use Rattle.rate.specs.Calls.{Call, Frames, Echo, Silence, Snr, Seed, Price, Family}
 use Rattle.question.specs.Bytes.{byte, le16, le32, float, ok_reading, reading_of}
 use Rattle.question.specs.Over.{over}
-pub use Rattle.question.specs.declared.types.Batch.{Batch}
-pub use Rattle.question.specs.declared.types.Bursts.{Bursts}
 
 -- whether each of the n numbers from i on passes
 unfoldable pub all_from : ℕ → ℕ → (ℕ → Bool) → Bool
@@ -108,20 +105,10 @@ call_of b =
     (Seed (float (drop 1 b))))))))
 
 -- ---- the two lists as arrays
--- what stands in an array past the frames, and past the burst counts
+-- what stands in an array past the frames
 abbrev pub no_frame : Frame
 no_frame = record { rung = rung 0; detected = false; decoded = false; combined = false; capacity = 0; air = f0 }
 
-unfoldable pub no_frames : List Frame
-no_frames = replicate 256 no_frame
-
-unfoldable pub no_bursts : List ℕ
-no_bursts = replicate 32 0
-
--- frames as an array of 256 and their number, counted no further than what decides: 257 is "over 256 frames"
-unfoldable pub batch_of : List Frame → Batch
-batch_of fs = record { frames = over (take 256 fs) no_frames; count = min 257 (length fs) }
-
--- burst counts as an array of 32, their number, counted no further than 33, "over 32 burst counts", and whether each of them all is within its limit
-unfoldable pub bursts_of : List ℕ → Bursts
-bursts_of bs = record { counts = over (take 32 bs) no_bursts; count = min 33 (length bs); within = every ok_burst bs }
+-- the first n of a list as an array of n entries, and d past the last
+unfoldable pub first_of : {A : Type 0} → ℕ → A → List A → List A
+first_of n d xs = over (take n xs) (replicate n d)

@@ -1,5 +1,6 @@
 -- A question file, as the list of its bytes: refusals 10, 11 and 12, and the body of each event. Definitions only.
-use Rattle.std.specs.Prelude.{Bool, ◌&&◌, ◌||◌, List, ℕ, zero, suc, ◌+◌, ◌*◌, leb, eqb, length, drop, take}
+use Rattle.std.specs.Prelude.{Bool, ◌&&◌, ◌||◌, List, ℕ, zero, suc, ◌+◌, ◌-◌, ◌*◌, leb, eqb, length, drop, take}
+use Rattle.ladder.specs.Lists.{tabulate}
 use Rattle.limits.specs.Refusals.{unless, or_else}
 use Rattle.limits.specs.declared.refusal.Refusal.TheVariants.{FileHeader, FilePairs, FileBody}
 use Rattle.limits.specs.declared.refusal.Verdict.{Verdict}
@@ -43,6 +44,10 @@ ok_pairs s = leb (pairs_end s) (length s) && chained s (event_count s) 0 (pairs_
 -- the i-th event's body
 unfoldable pub body_at : List ℕ → ℕ → List ℕ
 body_at s i = take (length_at s i) (drop (offset_at s i) s)
+
+-- the bodies of the events from the i-th on
+unfoldable pub bodies_from : List ℕ → ℕ → List (List ℕ)
+bodies_from s i = tabulate (event_count s - i) i (body_at s)
 
 -- "next body and end test only": whether a reader whose next pair is the i-th has read them all
 abbrev pub at_end : List ℕ → ℕ → Bool

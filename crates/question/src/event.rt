@@ -1,118 +1,125 @@
-// An event: its body's call, made on a controller. One small function a kind; each answers for every list of bytes.
-ghost use Rattle.std.specs.Prelude.{◌≡◌, eqb, drop};
+// An event: its body's call, made on a player. One small function a kind; each answers for every list of bytes.
+ghost use Rattle.std.specs.Prelude.{◌≡◌, ◌≤◌, ◌&&◌, eqb, drop};
+ghost use Rattle.limits.specs.Values.{ok_length, ok_burst};
+ghost use Rattle.ladder.specs.Lists.{every};
 ghost use Rattle.rate.specs.Calls.{step, Frames, Echo, Silence, Snr, Seed, Price, Family};
+ghost use Rattle.rate.specs.bridges.Replies.{answer_of};
 ghost use Rattle.question.specs.Bytes.{byte, le32, float, reading_of};
-ghost use Rattle.question.specs.Body.{frames_in, bursts_in, call_of};
+ghost use Rattle.question.specs.Body.{frame_count, frames_in, bursts_in, call_of};
 
-use crate::body::{bursts_of, frame_count, frame_of, frames_of};
+use crate::body::{burst_count, bursts_of, frame_count, frames_of, ok_bursts};
 use crate::bytes::{byte_at, f64_of, past, reading_of, u32_of};
+use crate::types::Kind;
 use limits::refusal::Refusal;
-use rate::types::{Answer, RateController};
+use rate::calls::answer;
+use rate::moves::{ok_lengths, refused};
+use rate::player::Player;
+use rate::types::{Answer, RateController, Reply};
 
-// Kind 1. Refused: 6, 7, 8. A transmission mostly has one frame, and an array of 256 is 6 KB, copied each time that it is handed on.
-fn frames_event(k: RateController, body: &[u8]) -> Answer
-    ensures { result ≡ step k (Frames (frames_in body.now) (reading_of (drop 1 body.now))) }
+// The call of a body of at most N frames.
+fn frames_in<const N: usize>(p: &mut Player, body: &[u8]) -> Reply
+    requires room { frame_count body.now ≤ N }
+    requires small { N ≤ 256 }
+    ensures { answer_of p.new result ≡ step p.old (Frames (frames_in body.now) (reading_of (drop 1 body.now))) }
 {
-    let snr = reading_of(past(body, 1));
-    if frame_count(body) == 1 {
-        return k.observe_frame(frame_of(past(body, 10)), snr);
+    let frames: [_; N] = frames_of(body);
+    p.observe_frames(&frames[..frame_count(body)], reading_of(past(body, 1)))
+}
+
+// Kind 1. Refused: 6, 7, 8. A transmission mostly has one frame, and a short array is sooner made.
+fn frames_event(p: &mut Player, body: &[u8]) -> Reply
+    ensures { answer_of p.new result ≡ step p.old (Frames (frames_in body.now) (reading_of (drop 1 body.now))) }
+{
+    match frame_count(body) {
+        0..=1 => frames_in::<1>(p, body),
+        2..=16 => frames_in::<16>(p, body),
+        17..=256 => frames_in::<256>(p, body),
+        _ => refused(Refusal::TooManyFrames),
     }
-    let batch = frames_of(body);
-    let frames = batch.frames;
-    let count = batch.count as usize;
-    rate::frames::observe_held(k, frames, count, snr)
 }
 
 // Kind 2. Refused: 8.
-fn echo_event(k: RateController, body: &[u8]) -> Answer
-    ensures { result ≡ step k (Echo (reading_of (drop 1 body.now)) (float (drop 10 body.now))) }
+fn echo_event(p: &mut Player, body: &[u8]) -> Reply
+    ensures { answer_of p.new result ≡ step p.old (Echo (reading_of (drop 1 body.now)) (float (drop 10 body.now))) }
 {
-    let share = reading_of(past(body, 1));
-    let snr_db = f64_of(past(body, 10));
-    k.observe_echo(share, snr_db)
+    p.observe_echo(reading_of(past(body, 1)), f64_of(past(body, 10)))
 }
 
 // Kind 3.
-fn silence_event(k: RateController, body: &[u8]) -> Answer
-    ensures { result ≡ step k (Silence (le32 (drop 1 body.now))) }
+fn silence_event(p: &mut Player, body: &[u8]) -> Reply
+    ensures { answer_of p.new result ≡ step p.old (Silence (le32 (drop 1 body.now))) }
 {
-    k.silent(u32_of(past(body, 1)))
+    p.silent(u32_of(past(body, 1)))
 }
 
 // Kind 4. Refused: 8.
-fn snr_event(k: RateController, body: &[u8]) -> Answer
-    ensures { result ≡ step k (Snr (reading_of (drop 1 body.now))) }
+fn snr_event(p: &mut Player, body: &[u8]) -> Reply
+    ensures { answer_of p.new result ≡ step p.old (Snr (reading_of (drop 1 body.now))) }
 {
-    k.observe_snr(reading_of(past(body, 1)))
+    p.observe_snr(reading_of(past(body, 1)))
 }
 
 // Kind 5.
-pub fn families_event(k: RateController, body: &[u8]) -> Answer
-    ensures { result ≡ step k (Family (eqb (byte body.now 1) 1) (eqb (byte body.now 2) 1)) }
+fn families_event(p: &mut Player, body: &[u8]) -> Reply
+    ensures { answer_of p.new result ≡ step p.old (Family (eqb (byte body.now 1) 1) (eqb (byte body.now 2) 1)) }
 {
     let own_floor = byte_at(body, 1) == 1;
     let other_floor = byte_at(body, 2) == 1;
-    k.set_families(own_floor, other_floor)
+    p.set_families(own_floor, other_floor)
 }
 
-// Prices, with the burst counts of a body. Refused: 8, a count past the 32nd included, then 9.
-fn price_bursts(k: RateController, floor: f64, ordinary: f64, gap: f64, body: &[u8]) -> Answer
-    ensures { result ≡ step k (Price floor ordinary gap (bursts_in body.now)) }
+// Whether the lengths of a body of prices and its burst counts, however many, are within their limits.
+fn ok_prices(floor: f64, ordinary: f64, gap: f64, body: &[u8]) -> bool
+    ensures { result ≡ (ok_length floor && ok_length ordinary && ok_length gap && every ok_burst (bursts_in body.now)) }
 {
-    let bursts = bursts_of(body);
-    if !bursts.within {
-        return rate::answers::refused(k, Refusal::OutsideLimits);
-    }
-    let count = bursts.count as usize;
-    if count > 32 {
-        if rate::prices::ok_lengths(floor, ordinary, gap) {
-            return rate::answers::refused(k, Refusal::TooManyBursts);
-        }
-        return rate::answers::refused(k, Refusal::OutsideLimits);
-    }
-    let counts = bursts.counts;
-    k.price_exchanges(floor, ordinary, gap, &counts[..count])
+    ok_lengths(floor, ordinary, gap) && ok_bursts(body)
 }
 
-// Kind 6. Refused: 8, 9.
-pub fn prices_event(k: RateController, body: &[u8]) -> Answer
-    ensures { result ≡ step k (Price (float (drop 1 body.now)) (float (drop 9 body.now)) (float (drop 17 body.now)) (bursts_in body.now)) }
+// Kind 6. Refused: 8, a count past the 32nd included, then 9.
+fn prices_event(p: &mut Player, body: &[u8]) -> Reply
+    ensures { answer_of p.new result ≡ step p.old (Price (float (drop 1 body.now)) (float (drop 9 body.now)) (float (drop 17 body.now)) (bursts_in body.now)) }
 {
     let floor = f64_of(past(body, 1));
     let ordinary = f64_of(past(body, 9));
     let gap = f64_of(past(body, 17));
-    price_bursts(k, floor, ordinary, gap, body)
+    let count = burst_count(body);
+    if count <= 32 {
+        return p.price_exchanges(floor, ordinary, gap, &bursts_of(body)[..count]);
+    }
+    if ok_prices(floor, ordinary, gap, body) {
+        return refused(Refusal::TooManyBursts);
+    }
+    refused(Refusal::OutsideLimits)
 }
 
 // Kind 7. Refused: 8.
-fn seed_event(k: RateController, body: &[u8]) -> Answer
-    ensures { result ≡ step k (Seed (float (drop 1 body.now))) }
+fn seed_event(p: &mut Player, body: &[u8]) -> Reply
+    ensures { answer_of p.new result ≡ step p.old (Seed (float (drop 1 body.now))) }
 {
-    k.seed(f64_of(past(body, 1)))
+    p.seed(f64_of(past(body, 1)))
 }
 
-// The call that a body stands for, made: what it leaves and returns.
+// The call that a body stands for, made in place: what it says. (A body of no kind breaks its form; it is no call's, and goes as a seed.)
+#[tactic(auto, unfolding(crate::specs::Body::call_of))]
+pub fn play(p: &mut Player, body: &[u8]) -> Reply
+    ensures { answer_of p.new result ≡ step p.old (call_of body.now) }
+{
+    match Kind::try_from(byte_at(body, 0)) {
+        Ok(Kind::Frames) => frames_event(p, body),
+        Ok(Kind::Echo) => echo_event(p, body),
+        Ok(Kind::Silence) => silence_event(p, body),
+        Ok(Kind::Snr) => snr_event(p, body),
+        Ok(Kind::Families) => families_event(p, body),
+        Ok(Kind::Prices) => prices_event(p, body),
+        Ok(Kind::Seed) | Err(_) => seed_event(p, body),
+    }
+}
+
+// The same by value: what the call leaves and returns.
 pub fn answer_event(k: RateController, body: &[u8]) -> Answer
     ensures { result ≡ step k (call_of body.now) }
 {
-    let kind = byte_at(body, 0);
-    if kind == 1 {
-        return frames_event(k, body);
-    }
-    if kind == 2 {
-        return echo_event(k, body);
-    }
-    if kind == 3 {
-        return silence_event(k, body);
-    }
-    if kind == 4 {
-        return snr_event(k, body);
-    }
-    if kind == 5 {
-        return families_event(k, body);
-    }
-    if kind == 6 {
-        return prices_event(k, body);
-    }
-    seed_event(k, body)
+    let mut p = Player::new(k);
+    let reply = play(&mut p, body);
+    answer(*p.controller(), reply)
 }

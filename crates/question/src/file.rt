@@ -1,8 +1,9 @@
 // A question file: its header, its pairs and where the bodies of its events stand. Each function answers for every list of bytes.
-ghost use Rattle.std.specs.Prelude.{◌≡◌, ◌<◌};
-ghost use Rattle.question.specs.File.{event_count, air, known_air, ok_header, offset_at, length_at, ok_pairs, body_at, at_end};
+ghost use Rattle.std.specs.Prelude.{◌≡◌};
+ghost use Rattle.question.specs.File.{event_count, air, ok_header, offset_at, length_at, ok_pairs, body_at};
 
 use crate::bytes::{part, past, u32_of};
+use crate::types::Bandwidth;
 
 // How many events the file has.
 pub fn event_count(file: &[u8]) -> u32
@@ -11,37 +12,25 @@ pub fn event_count(file: &[u8]) -> u32
     u32_of(file)
 }
 
-// The air's number: 1 wide, 2 narrow.
+// The air's number.
 pub fn air(file: &[u8]) -> u32
     ensures { result ≡ air file.now }
 {
     u32_of(past(file, 4))
 }
 
-// Whether a number is an air's.
-fn known_air(n: u32) -> bool
-    ensures { result ≡ known_air n }
-{
-    if n == 1 { true } else { n == 2 }
-}
-
 // Whether the file's size, air and event count are known.
+#[tactic(auto, unfolding(crate::specs::File::ok_header))]
 pub(crate) fn ok_header(file: &[u8]) -> bool
     ensures { result ≡ ok_header file.now }
 {
-    if file.len() < 8 {
-        return false;
-    }
-    if file.len() > 65536 {
-        return false;
-    }
-    if known_air(air(file)) {
-        return event_count(file) <= 1000;
-    }
-    false
+    (8..=65536).contains(&file.len())
+        && Bandwidth::try_from(air(file)).is_ok()
+        && event_count(file) <= 1000
 }
 
 // The offset of the i-th pair, from 0.
+#[tactic(auto, unfolding(crate::specs::File::offset_at))]
 fn offset_at(file: &[u8], i: u32) -> u32
     ensures { result ≡ offset_at file.now i }
 {
@@ -49,6 +38,7 @@ fn offset_at(file: &[u8], i: u32) -> u32
 }
 
 // Its length.
+#[tactic(auto, unfolding(crate::specs::File::length_at))]
 fn length_at(file: &[u8], i: u32) -> u32
     ensures { result ≡ length_at file.now i }
 {
@@ -74,17 +64,11 @@ pub(crate) fn ok_pairs(file: &[u8]) -> bool
 }
 
 // The body of the i-th event, from 0.
+#[tactic(auto, unfolding(crate::specs::File::body_at))]
 pub fn body_at(file: &[u8], i: u32) -> &[u8]
     ensures { result.now ≡ body_at file.now i }
 {
     let at = offset_at(file, i) as usize;
     let len = length_at(file, i) as usize;
     part(file, at, len)
-}
-
-// Whether the i-th event, from 0, is past the last; and that the count is a u32, so that a number below it has a next.
-pub fn end_at(file: &[u8], i: u32) -> bool
-    ensures { (result ≡ at_end file.now i) × (event_count file.now < 4294967296) }
-{
-    event_count(file) <= i
 }

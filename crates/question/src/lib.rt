@@ -7,5 +7,6 @@ pub mod bytes;
 pub mod event;
 pub mod file;
 pub mod reader;
+pub mod start;
 pub mod types;
 pub mod verdict;

@@ -1,9 +1,9 @@
-// "a reader keeps the question file and its next pair": the sheet and the marking read the file's bodies through it. The two functions over a reader
-// take it apart and call a function over the slice and the number; the two over a plain slice make a reader and ask it.
+// "a reader keeps the question file and its next pair": next body and end test. As an iterator it gives the file's bodies, one after the other.
 ghost use Rattle.std.specs.Prelude.{◌≡◌, ◌<◌};
-ghost use Rattle.question.specs.File.{event_count, body_at, at_end};
+ghost use Rattle.std.specs.Iterator.{YieldsFirstRef, item_count};
+ghost use Rattle.question.specs.File.{event_count, body_at, at_end, bodies_from};
 
-use crate::file::{body_at, end_at};
+use crate::file::{body_at, event_count};
 
 #[derive(Clone, Copy)]
 pub struct Reader<'a> {
@@ -11,30 +11,45 @@ pub struct Reader<'a> {
     pub next: u32,
 }
 
-// The body of the next pair.
-pub fn next_body<'a>(r: Reader<'a>) -> &'a [u8]
-    ensures { result.now ≡ body_at r.entry.file.now r.entry.next }
-{
-    body_at(r.file, r.next)
+impl<'a> Reader<'a> {
+    // At the file's first pair.
+    pub fn new(file: &'a [u8]) -> Reader<'a>
+        ensures file { result.file.now ≡ file.now }
+        ensures first { result.next ≡ 0 }
+    {
+        Reader { file, next: 0 }
+    }
+
+    // The body of the next pair.
+    pub fn next_body(&self) -> &'a [u8]
+        ensures { result.now ≡ body_at self.now.file.now self.now.next }
+    {
+        body_at(self.file, self.next)
+    }
+
+    // Whether no pair is left; and that the count is a u32, so that a number below it has a next.
+    pub fn at_end(&self) -> bool
+        ensures value { result ≡ at_end self.now.file.now self.now.next }
+        ensures counted { event_count self.now.file.now < 4294967296 }
+    {
+        event_count(self.file) <= self.next
+    }
 }
 
-// Whether no pair is left.
-pub fn at_end<'a>(r: Reader<'a>) -> bool
-    ensures { (result ≡ at_end r.entry.file.now r.entry.next) × (event_count r.entry.file.now < 4294967296) }
-{
-    end_at(r.file, r.next)
-}
+impl<'a> Iterator for Reader<'a> {
+    type Item = &'a [u8];
 
-// The body that a reader at the i-th pair has next.
-pub fn read_body(file: &[u8], i: u32) -> &[u8]
-    ensures { result.now ≡ body_at file.now i }
-{
-    next_body(Reader { file, next: i })
-}
+    ghost next_gives = { YieldsFirstRef (λ r. bodies_from r.file.now r.next) };
 
-// Whether a reader at the i-th pair is at the end.
-pub fn read_end(file: &[u8], i: u32) -> bool
-    ensures { (result ≡ at_end file.now i) × (event_count file.now < 4294967296) }
-{
-    at_end(Reader { file, next: i })
+    ghost remaining = { item_count (λ r. bodies_from r.file.now r.next) };
+
+    #[tactic(auto, using(crate::proofs::Events::bodies_next, crate::proofs::Events::bodies_none))]
+    fn next(&mut self) -> Option<&'a [u8]> {
+        if self.at_end() {
+            return None;
+        }
+        let body = self.next_body();
+        self.next += 1;
+        Some(body)
+    }
 }

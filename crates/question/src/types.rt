@@ -1,17 +1,62 @@
-// What a body holds, as arrays.
-use rules::types::Frame;
+// The kinds of bodies and the airs, by the file's numbers.
+ghost use Rattle.question.specs.Numbers.{NamesKind, NamesAir};
 
-// The frames of a body: the first 256, and how many there are, counted no further than 257, which is too many.
-#[derive(Clone, Copy)]
-pub struct Batch {
-    pub frames: [Frame; 256],
-    pub count: u32,
+// What a body is of.
+#[derive(Clone, Copy, Debug, PartialEq, Eq)]
+pub enum Kind {
+    Frames,
+    Echo,
+    Silence,
+    Snr,
+    Families,
+    Prices,
+    Seed,
 }
 
-// The burst counts of a body: the first 32, how many there are, counted no further than 33, and whether each of them all is within its limit.
-#[derive(Clone, Copy)]
-pub struct Bursts {
-    pub counts: [u32; 32],
-    pub count: u32,
-    pub within: bool,
+// A first byte that names no kind.
+#[derive(Clone, Copy, Debug, PartialEq, Eq)]
+pub struct UnknownKind(pub u8);
+
+impl TryFrom<u8> for Kind {
+    type Error = UnknownKind;
+
+    ghost try_from_gives = { NamesKind };
+
+    fn try_from(number: u8) -> Result<Self, UnknownKind> {
+        match number {
+            1 => Ok(Kind::Frames),
+            2 => Ok(Kind::Echo),
+            3 => Ok(Kind::Silence),
+            4 => Ok(Kind::Snr),
+            5 => Ok(Kind::Families),
+            6 => Ok(Kind::Prices),
+            7 => Ok(Kind::Seed),
+            _ => Err(UnknownKind(number)),
+        }
+    }
+}
+
+// An air.
+#[derive(Clone, Copy, Debug, PartialEq, Eq)]
+pub enum Bandwidth {
+    Wide,
+    Narrow,
+}
+
+// A number that names no air.
+#[derive(Clone, Copy, Debug, PartialEq, Eq)]
+pub struct UnknownAir(pub u32);
+
+impl TryFrom<u32> for Bandwidth {
+    type Error = UnknownAir;
+
+    ghost try_from_gives = { NamesAir };
+
+    fn try_from(number: u32) -> Result<Self, UnknownAir> {
+        match number {
+            1 => Ok(Bandwidth::Wide),
+            2 => Ok(Bandwidth::Narrow),
+            _ => Err(UnknownAir(number)),
+        }
+    }
 }

@@ -4,35 +4,28 @@ ghost use Rattle.question.specs.File.{ok_bodies, file_verdict};
 
 use crate::body::ok_body;
 use crate::file::{ok_header, ok_pairs};
-use crate::reader::{read_body, read_end};
+use crate::reader::Reader;
 use limits::refusal::{Refusal, Verdict};
 
 // Whether each body has its kind's form.
 fn ok_bodies(file: &[u8]) -> bool
     ensures { result ≡ ok_bodies file.now }
 {
-    let mut i: u32 = 0;
-    while !read_end(file, i) {
-        if !ok_body(read_body(file, i)) {
-            return false;
-        }
-        i += 1;
-    }
-    true
+    Reader::new(file).all(|body| ok_body(body))
 }
 
 // The lowest of the three that applies.
+#[tactic(auto, unfolding(crate::specs::File::file_verdict))]
 pub fn file_verdict(file: &[u8]) -> Verdict
     ensures { result ≡ file_verdict file.now }
 {
     if !ok_header(file) {
-        return Verdict::Refused(Refusal::FileHeader);
+        Verdict::Refused(Refusal::FileHeader)
+    } else if !ok_pairs(file) {
+        Verdict::Refused(Refusal::FilePairs)
+    } else if !ok_bodies(file) {
+        Verdict::Refused(Refusal::FileBody)
+    } else {
+        Verdict::Accepted
     }
-    if !ok_pairs(file) {
-        return Verdict::Refused(Refusal::FilePairs);
-    }
-    if !ok_bodies(file) {
-        return Verdict::Refused(Refusal::FileBody);
-    }
-    Verdict::Accepted
 }

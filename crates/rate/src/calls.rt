@@ -10,7 +10,7 @@ use rules::accounts::Fades;
 use rules::types::Frame;
 
 // A controller as a call left it, with what the call said.
-fn answer(k: RateController, said: Reply) -> Answer
+pub fn answer(k: RateController, said: Reply) -> Answer
     ensures { result ≡ answer_of k said }
 {
     let marks = said.unwrap_or(moves::UNMARKED);

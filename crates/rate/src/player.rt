@@ -10,6 +10,7 @@ use rules::accounts::Fades;
 use rules::types::Frame;
 use std::marker::Model;
 
+#[derive(Drop)]
 pub struct Player {
     controller: RateController,
     fades: Fades,

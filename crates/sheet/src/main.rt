@@ -1,16 +1,16 @@
 // Prints the sheet of the question file on standard input, or `refused` and the number. All that matters is in the crate paper.
 #![tactic(auto)]
 
-use question::bytes::part;
 use std::io;
 use std::io::Read;
 
 // One byte more than a question file may have: a longer input is seen to be too long, and is not cut to one that is not.
-const ROOM: usize = 65537;
+const ROOM: u64 = 65537;
 
 const SHEET: usize = 32768;
 
-// The system's words for an error, without the number that std writes behind them.
+// The system's words for an error, without the number that std writes behind them. (The program mark has the same two
+// functions: a crate for them would be no plainer.)
 fn words(text: &str) -> &str {
     text.split(" (os error ").next().unwrap_or(text)
 }
@@ -25,9 +25,9 @@ fn fail(rt: &(impl Eprint + Alloc), what: &str, why: io::Error) -> io::Result<()
 fn main(rt: HostRuntime) -> io::Result<()> {
     let mut question = Vec::new(rt.alloc());
     let mut out = [0u8; SHEET];
-    if let Err(why) = rt.reader().take(ROOM as u64).read_to_end(&mut question) {
+    if let Err(why) = rt.reader().take(ROOM).read_to_end(&mut question) {
         return fail(&rt, "standard input", why);
     }
     let len = paper::sheet::print_sheet(&question, &mut out);
-    rt.write_all(part(&out, 0, len))
+    rt.write_all(&out[..len])
 }

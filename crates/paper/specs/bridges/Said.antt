@@ -1,11 +1,12 @@
 -- What is said of each event of a file, and the sheet's text and the score by that alone: proofs/Said.antt shows that they are `sheet_of` and `score_of`.
 -- Definitions only.
-use Rattle.std.specs.Prelude.{ℕ, suc, ◌+◌, cond, List, [], ◌∷◌, ◌++◌, ◌==◌}
+use Rattle.std.specs.Prelude.{ℕ, suc, ◌+◌, cond, List, [], ◌∷◌, ◌++◌, ◌==◌, Ok, Err}
 use Rattle.rate.specs.declared.types.RateController.{RateController}
 use Rattle.rate.specs.Calls.{Call, step}
 use Rattle.question.specs.File.{air}
-use Rattle.paper.specs.declared.types.Line.TheVariants.{Answered, Refused}
-use Rattle.paper.specs.Sheet.{Line, Score, fresh_for, calls_of, line_of, line_bytes}
+use Rattle.question.specs.Start.{fresh_for}
+use Rattle.paper.specs.Lines.{Cell}
+use Rattle.paper.specs.Sheet.{Line, Outcome, Score, calls_of, line_of, flag_cell, line_bytes}
 
 -- of calls from a controller on, each on what the last left
 unfoldable pub said_from : RateController → List Call → List Line
@@ -20,10 +21,14 @@ unfoldable pub text_from : ℕ → List Line → List ℕ
 text_from e [] = []
 text_from e (l ∷ ls) = line_bytes e l ++ text_from (suc e) ls
 
+-- the last three fields of an answered event's line
+abbrev pub flag_cells : Outcome → List Cell
+flag_cells o = flag_cell o.ofdm_refused ∷ flag_cell o.ended ∷ flag_cell o.begun ∷ []
+
 -- the score with the answer to one line more
 abbrev pub scored_line : Score → Line → ℕ → Score
-scored_line m (Answered choice tried ofdm ended begun) x = record { right = m.right + cond (x == choice.0) 1 0; counted = m.counted + 1 }
-scored_line m (Refused why) x = m
+scored_line m (Ok o) x = record { right = m.right + cond (x == o.choice.0) 1 0; counted = m.counted + 1 }
+scored_line m (Err why) x = m
 
 unfoldable pub score_lines : Score → List Line → List ℕ → Score
 score_lines m [] xs = m

@@ -1,34 +1,24 @@
--- The invariant: the score so far, with the answers from the i-th on, is the file's.
-use Rattle.std.specs.Prelude.{◌<◌, get_or}
-use mathlib.Core.Path.{sym, ◌∙◌}
-use native.Mathlib.Omega.{arith}
-use Rattle.question.specs.File.{event_count}
-use Rattle.paper.specs.bridges.Said.{said}
-use Rattle.paper.proofs.Said.{line_at, score_text, said_length, score_next, score_end, scored_most}
-use Rattle.paper.proofs.Outcomes.{log_room, outcome_score}
-use borrow.Author.Rules.{rules}
+-- The invariant: the score so far, with the answers that are left, is that of all.
+use Rattle.std.proofs.Common.{◌≡◌, ◌+◌, length, get_or, sym, ap, ◌∙◌, arith, rules, length-append, ◌++◌, ◌∷◌, []}
+use Rattle.std.proofs.lemmas.Slice.Zip.{zip_turn, zip_end}
+use Rattle.paper.proofs.Said.{score_next, score_end, scored_most}
 use Rattle.paper.proofs.mark.score_all.Goals as goal
 
-pub loop-i-init : goal.loop-i-init
-loop-i-init c = (search rules, search rules, search rules, sym (score_text c.args.file.now c.args.answers.now))
-
-pub outcome_at-o-requires : goal.outcome_at-o-requires
-outcome_at-o-requires c = omega (arith, log_room c.args.file.now c.args.log.now c.requires.logged, c.event_count-i-end.ensures)
-
-pub bounds-answers-at : goal.bounds-answers-at
-bounds-answers-at c = omega (arith, c.event_count-i-end.ensures, c.requires.answers_len)
-
-pub loop-i-preserved : goal.loop-i-preserved
-loop-i-preserved c =
-    let l = c.loop-i in
+pub loop-line-preserved : goal.loop-line-preserved
+loop-line-preserved c =
     let a = c.args in
-    let h : l.i < event_count a.file.now = omega (arith, c.event_count-i-end.ensures) in
-    let e = outcome_score a.file.now a.log.now c.requires.logged l.i _ c.outcome_at-o.ensures h l.m _ _ c.score-scored.ensures in
-    let most = scored_most l.m (line_at (said a.file.now) l.i) (get_or a.answers.now l.i 0) c.score-scored.result e in
-    (omega arith, omega arith, omega arith, rw e (score_next (said a.file.now) l.i l.m a.answers.now (omega (arith, said_length a.file.now)) (omega (arith, c.requires.answers_len))) ∙ l.invariant.3)
+    let l = c.loop-line in
+    let xs = l.yielded in
+    let turn = zip_turn a.lines.now a.answers.now xs c.into_iter-line-iterator.result l.line-iterator c.next.new.self c.next.result (search rules) (search rules) l.yielded_by (c.in-Some.line, c.in-Some.answer) c.in-Some.is c.next.ensures.steps in
+    let next = score_next a.lines.now (length xs) l.m a.answers.now c.in-Some.line.now c.in-Some.answer.now turn.0 turn.1 in
+    let most = scored_most l.m c.in-Some.line.now c.in-Some.answer.now c.score-m.result c.score-m.ensures in
+    let more : length (xs ++ ((c.in-Some.line, c.in-Some.answer) ∷ [])) ≡ length xs + 1 = length-append xs _ in
+    rw more (omega arith, omega arith, rw (c.score-m.ensures, turn.2 c.in-Some.line.now, turn.3 c.in-Some.answer.now) (next ∙ l.invariant.2))
 
 pub returns : goal.returns
 returns c =
-    let l = c.loop-i in
-    let file = c.args.file.now in
-    sym (score_end (said file) l.i l.m _ (omega (arith, c.event_count-i-end.ensures, said_length file))) ∙ l.invariant.3
+    let a = c.args in
+    let l = c.loop-line in
+    let xs = l.yielded in
+    let end = zip_end a.lines.now a.answers.now xs c.into_iter-line-iterator.result l.line-iterator c.next.new.self c.next.result (search rules) (search rules) l.yielded_by c.in-None.is c.next.ensures.steps in
+    sym (score_end a.lines.now (length xs) l.m a.answers.now (omega arith)) ∙ l.invariant.2

@@ -1,123 +1,43 @@
--- The invariant: the arrays and what else the loop keeps are the controller that the events below the i-th leave, their outcomes stand over the start of the
--- slice, and the others are left.
-use borrow.Author.Rules.{rules}
-use Rattle.std.specs.Prelude.{◌≡◌, ℕ, ◌<◌, List, length, replicate}
-use mathlib.Core.Path.{refl, sym, ◌∙◌}
-use native.Mathlib.Omega.{arith}
-use Rattle.float.specs.Numbers.{f0}
-use Rattle.steps.specs.bridges.Held.{Lent, laid}
-use Rattle.question.specs.File.{event_count}
-use Rattle.question.proofs.Over.{partly_start, partly_within, partly_lent, partly_next, partly_end}
-use Rattle.question.proofs.Events.{before_end, past_end}
-use Rattle.paper.proofs.Playing.{first_playing}
-use Rattle.paper.proofs.Running.{none_kept, outcomes_start, outcomes_end, next_outcome}
+-- Each turn of the loop is the next event: the bodies come in the file's order, each with its number.
+use Rattle.std.proofs.Common.{rules, ◌≡◌, ℕ, ◌+◌, ◌<◌, ◌^◌, inl, length, refl, ◌∙◌, arith}
+use Rattle.std.proofs.lemmas.List.{length_push}
+use Rattle.question.specs.File.{event_count, bodies_from}
+use Rattle.question.proofs.Events.{length_bodies, this_body, no_body}
+use Rattle.paper.proofs.Running.{filled_start, filled_next, filled_end}
 use Rattle.paper.proofs.run.run.Goals as goal
 
-stays : {A : Type 0} (xs ys : List A) (n : ℕ) → length xs ≡ length ys → length ys ≡ n → length xs ≡ n
-stays xs ys n e f = e ∙ f
-
-pub loop-t-init : goal.loop-t-init
-loop-t-init c =
+pub loop-i-init-derived : goal.loop-i-init-derived
+loop-i-init-derived c =
     let file = c.args.file.now in
-    let table = c.lay_table.ensures ∙ c.table_of-table.ensures in
-    let e = outcomes_start file _ _ c.air.ensures (first_playing _ _ c.unpriced_prices-p.result c.fresh_core-c.result table c.unpriced_prices-p.ensures c.fresh_core-c.ensures) in
-    (search rules, refl, rw e (partly_start _ _), refl, refl, refl, refl, none_kept (laid c.table_of-table.result.air c.lay_table.new.reals c.lay_table.new.wholes) (replicate 96 f0))
+    let n : length (bodies_from file 0) ≡ event_count file = length_bodies file in
+    let few : 0 + length (bodies_from file 0) < 2 ^ 64 = search (rules, n, c.requires) in
+    ((tt, tt, inl (rw (c.into_iter-i-iterator.ensures.into_iter_gives, c.enumerate-i-items.ensures.source, c.enumerate-i-items.ensures.count, c.new.ensures.file, c.new.ensures.first) few)), tt)
 
-pub slice_bounds-play_event-end : goal.slice_bounds-play_event-end
-slice_bounds-play_event-end c =
-    let q : Lent c.lay_table.new.reals c.lay_table.new.wholes = search rules in
-    sym q.of_reals
+pub loop-i-init : goal.loop-i-init
+loop-i-init c = filled_start c.args.file.now c.args.lines.now c.air.result c.new-player.result c.requires c.air.ensures (c.new-player.ensures ∙ c.fresh_for.ensures)
 
-pub slice_bounds-play_event-end-in-loop-t : goal.slice_bounds-play_event-end-in-loop-t
-slice_bounds-play_event-end-in-loop-t c =
-    let q : Lent c.lay_table.new.reals c.lay_table.new.wholes = search rules in
-    sym q.of_wholes
+in_lines : (c : goal.After-line_of) → c.in-Some.i < length c.loop-i.lines
+in_lines c =
+    let l = c.loop-i in
+    let n = this_body c.args.file.now c.into_iter-i-iterator.result l.i-iterator c.next.new.self (cc) (cc) l.yielded l.yielded_by _ c.next.ensures.steps c.in-Some.i c.in-Some.body c.in-Some.is in
+    omega (arith, n.0, n.1, l.invariant.size)
 
-pub slice_bounds-play_event-end-in-loop-t-2 : goal.slice_bounds-play_event-end-in-loop-t-2
-slice_bounds-play_event-end-in-loop-t-2 c =
-    sym c.loop-t.invariant.3
+pub offset_bounds-lines-i : goal.offset_bounds-lines-i
+offset_bounds-lines-i c = search (rules, in_lines c)
 
-pub slice_bounds-play_event-end-in-loop-t-3 : goal.slice_bounds-play_event-end-in-loop-t-3
-slice_bounds-play_event-end-in-loop-t-3 c =
-    sym c.loop-t.invariant.4
+pub bounds-lines-i : goal.bounds-lines-i
+bounds-lines-i c = in_lines c
 
-pub slice_bounds-play_event-end-in-loop-t-4 : goal.slice_bounds-play_event-end-in-loop-t-4
-slice_bounds-play_event-end-in-loop-t-4 c =
-    sym c.loop-t.invariant.5
-
-pub slice_bounds-play_event-end-in-loop-t-5 : goal.slice_bounds-play_event-end-in-loop-t-5
-slice_bounds-play_event-end-in-loop-t-5 c =
-    sym c.loop-t.invariant.6
-
-pub play_event-a-requires : goal.play_event-a-requires
-play_event-a-requires c =
-    let q : Lent c.lay_table.new.reals c.lay_table.new.wholes = search rules in
-    let v = c.loop-t.invariant in
-    record { lent = q; fades_len = v.3; sized = record { of_books = v.4; of_since = v.5; of_wait = v.6 }; kept = v.7 }
-
-pub slice_bounds-line_of-end : goal.slice_bounds-line_of-end
-slice_bounds-line_of-end c =
-    let q : Lent c.lay_table.new.reals c.lay_table.new.wholes = search rules in
-    sym q.of_reals
-
-pub slice_bounds-line_of-end-in-loop-t : goal.slice_bounds-line_of-end-in-loop-t
-slice_bounds-line_of-end-in-loop-t c =
-    let q : Lent c.lay_table.new.reals c.lay_table.new.wholes = search rules in
-    sym q.of_wholes
-
-pub line_of-requires : goal.line_of-requires
-line_of-requires c =
-    let q : Lent c.lay_table.new.reals c.lay_table.new.wholes = search rules in
-    q
-
-pub offset_bounds-log-at : goal.offset_bounds-log-at
-offset_bounds-log-at c =
-    let n : (c.loop-t.i < event_count c.args.file.now) × (event_count c.args.file.now < 4294967296) = (before_end _ _ _ c.read_end.ensures.0 c.loop-t-test.true, c.read_end.ensures.1) in
-    search (rules, n, c.loop-t.invariant.1)
-
-pub slice_bounds-put_outcome-count : goal.slice_bounds-put_outcome-count
-slice_bounds-put_outcome-count c =
-    (partly_within c.loop-t.invariant.2).0
-
-pub put_outcome-requires : goal.put_outcome-requires
-put_outcome-requires c =
-    let n : (c.loop-t.i < event_count c.args.file.now) × (event_count c.args.file.now < 4294967296) = (before_end _ _ _ c.read_end.ensures.0 c.loop-t-test.true, c.read_end.ensures.1) in
-    omega (arith, partly_lent c.loop-t.invariant.2, n, c.loop-t.invariant.1, c.requires)
-
-pub overflow_add-at : goal.overflow_add-at
-overflow_add-at c =
-    let n : (c.loop-t.i < event_count c.args.file.now) × (event_count c.args.file.now < 4294967296) = (before_end _ _ _ c.read_end.ensures.0 c.loop-t-test.true, c.read_end.ensures.1) in
-    search (rules, n, c.loop-t.invariant.1)
-
-pub overflow_add-i : goal.overflow_add-i
-overflow_add-i c =
-    let n : (c.loop-t.i < event_count c.args.file.now) × (event_count c.args.file.now < 4294967296) = (before_end _ _ _ c.read_end.ensures.0 c.loop-t-test.true, c.read_end.ensures.1) in
-    search (rules, n)
-
-pub loop-t-smaller : goal.loop-t-smaller
-loop-t-smaller c =
-    let n : (c.loop-t.i < event_count c.args.file.now) × (event_count c.args.file.now < 4294967296) = (before_end _ _ _ c.read_end.ensures.0 c.loop-t-test.true, c.read_end.ensures.1) in
-    search (rules, n)
-
-pub loop-t-preserved : goal.loop-t-preserved
-loop-t-preserved c =
-    let n : (c.loop-t.i < event_count c.args.file.now) × (event_count c.args.file.now < 4294967296) = (before_end _ _ _ c.read_end.ensures.0 c.loop-t-test.true, c.read_end.ensures.1) in
-    let l = c.loop-t in
-    let y = c.play_event-a in
+pub loop-i-preserved : goal.loop-i-preserved
+loop-i-preserved c =
     let file = c.args.file.now in
-    let next = next_outcome file _ l.i _ l.p _ l.books y.new.books l.since y.new.since l.wait y.new.wait l.c y.result.moved _ _ _ n.0 c.read_body-body.ensures y.ensures.moved_value y.ensures.core_after c.prices_after-p.ensures c.line_of.ensures c.outcome_of-o.ensures in
-    rw c.same_core-c.ensures (
-      omega (arith, n),
-      omega (arith, l.invariant.1),
-      partly_next l.invariant.2 next (omega (arith, n, l.invariant.1, c.requires)) _ 3 refl c.put_outcome.ensures,
-      stays y.new.fades l.fades 96 y.auto.fades l.invariant.3,
-      stays y.new.books l.books 96 y.auto.books l.invariant.4,
-      stays y.new.since l.since 32 y.auto.since l.invariant.5,
-      stays y.new.wait l.wait 32 y.auto.wait l.invariant.6,
-      y.ensures.kept_2,
-    )
+    let l = c.loop-i in
+    let n = this_body file c.into_iter-i-iterator.result l.i-iterator c.next.new.self (cc) (cc) l.yielded l.yielded_by _ c.next.ensures.steps c.in-Some.i c.in-Some.body c.in-Some.is in
+    rw (length_push l.yielded (c.in-Some.i, c.in-Some.body), n.1, c.line_of.ensures, c.controller.ensures)
+    (filled_next file (length l.yielded) l.lines l.player c.in-Some.body.now _ _ n.0 n.2 c.play-reply.ensures refl l.invariant)
 
 pub returns : goal.returns
 returns c =
     let file = c.args.file.now in
-    (partly_end c.loop-t.invariant.2 (outcomes_end file (event_count file) c.loop-t.i _ (past_end _ _ _ c.read_end.ensures.0 c.loop-t-test.false))).1
+    let l = c.loop-i in
+    filled_end file (length l.yielded) l.lines l.player (no_body file c.into_iter-i-iterator.result l.i-iterator c.next.new.self (cc) (cc) l.yielded l.yielded_by _ c.next.ensures.steps c.in-None.is) l.invariant

@@ -8,13 +8,15 @@ use Rattle.paper.specs.Sheet.{refused_bytes, fitting}
 use Rattle.paper.proofs.sheet.print_refused.Goals as goal
 
 pub returns-then-refused_length-out : goal.returns-then-refused_length-out
-unfolding refused_bytes fitting over
+unfolding fitting over
 returns-then-refused_length-out c =
     let a = c.args in
-    rw (lt-leb (length (refused_bytes a.why)) (length a.out.now) (omega (arith, rw c.number-n.ensures at c.refused_length.ensures))) (record { value = refl; out_after = refl })
+    rw (lt-leb (length (refused_bytes a.why)) (length a.out.now) (omega (arith, c.refused_length.ensures))) (record { value = refl; out_after = refl; within = omega arith })
 
 pub returns : goal.returns
-unfolding refused_bytes fitting
+unfolding fitting
 returns c =
     let a = c.args in
-    rw (le-leb (length (refused_bytes a.why)) (length a.out.now) (omega (arith, rw c.number-n.ensures at c.refused_length.ensures))) (record { value = rw c.number-n.ensures at c.write_refused.ensures.value; out_after = rw c.number-n.ensures at c.write_refused.ensures.out_after })
+    let w = c.write_refused.ensures in
+    rw (le-leb (length (refused_bytes a.why)) (length a.out.now) (omega (arith, c.refused_length.ensures)))
+    (record { value = w.value; out_after = w.out_after; within = omega (arith, w.value, c.refused_length.ensures) })

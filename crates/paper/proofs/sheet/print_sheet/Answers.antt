@@ -1,19 +1,20 @@
 -- What the sheet call left and answered decides.
 use mathlib.Core.Path.{sym, ◌∙◌}
+use native.Mathlib.Omega.{arith}
 use Rattle.paper.proofs.Printed.{printed_sheet, printed_refused}
 use Rattle.paper.proofs.sheet.print_sheet.Goals as goal
 
-pub returns-in-Written : goal.returns-in-Written
-returns-in-Written c =
+pub returns-in-Ok : goal.returns-in-Ok
+returns-in-Ok c =
     let a = c.args in
-    let s = c.sheet-answer.ensures in
-    let r = printed_sheet a.question.now a.out.now _ s.out_after _ (sym c.in-Written.is ∙ s.value) in
-    record { value = r.0; out_after = r.1 }
+    let s = c.sheet.ensures in
+    let r = printed_sheet a.question.now a.out.now _ s.out_after _ (sym c.in-Ok.is ∙ s.value) in
+    record { value = r.0; out_after = r.1; within = c.in-Ok.ensures.within }
 
-pub returns-in-Refused : goal.returns-in-Refused
-returns-in-Refused c =
+pub returns-in-Err : goal.returns-in-Err
+returns-in-Err c =
     let a = c.args in
-    let s = c.sheet-answer.ensures in
+    let s = c.sheet.ensures in
     let w = c.print_refused.ensures in
-    let r = printed_refused a.question.now a.out.now _ s.out_after _ _ _ (sym c.in-Refused.is ∙ s.value) w.value w.out_after in
-    record { value = r.0; out_after = r.1 }
+    let r = printed_refused a.question.now a.out.now _ s.out_after _ _ _ (sym c.in-Err.is ∙ s.value) w.value w.out_after in
+    record { value = r.0; out_after = r.1; within = omega (arith, w.within, c.sheet.auto.out) }

@@ -1,38 +1,18 @@
--- Up to three digits are stored where they stand, and more are written by recursion.
-use mathlib.Core.Path.{refl, ap}
-use native.Mathlib.Omega.{arith}
-use Rattle.std.specs.Prelude.{◌<◌, length}
-use lib.ListN.{length-set}
-use Rattle.question.proofs.Over.{over_start, put}
-use Rattle.paper.proofs.Decimal.{decimal_one, decimal_two, decimal_three}
-use Rattle.paper.proofs.Stored.{two_stored, three_stored}
+-- `itoa` ends the digits where their count says, and so begins them at the start.
+use Rattle.std.proofs.Common.{◌≡◌, length, drop, refl, ap, arith}
+use Rattle.std.specs.Fmt as text
+use Rattle.question.specs.Over.{over}
+use Rattle.paper.specs.Lines.{decimal}
+use Rattle.paper.proofs.Decimal.{decimal_text}
 use Rattle.paper.proofs.text.write_number.Goals as goal
 
-pub bounds-out-0 : goal.bounds-out-0
-bounds-out-0 c = omega (arith, c.requires, ap length (decimal_one _ c.if-n-lt10.true))
+pub write_digits-requires : goal.write_digits-requires
+write_digits-requires c =
+    rw (decimal_text c.args.n (omega arith)) (omega (arith, c.digits_of-len.ensures), omega (arith, c.digits_of-len.ensures, c.requires))
 
-pub returns-then-n-lt10 : goal.returns-then-n-lt10
-returns-then-n-lt10 c =
-    let room : 0 < length c.args.out.now = omega (arith, c.requires, ap length (decimal_one _ c.if-n-lt10.true)) in
-    rw (decimal_one _ c.if-n-lt10.true) (record { value = refl; out_after = (put (over_start _) _ room).is })
-
-pub bounds-out-0-then-n-lt100 : goal.bounds-out-0-then-n-lt100
-bounds-out-0-then-n-lt100 c = omega (arith, c.requires, ap length (decimal_two _ c.if-n-lt10.false c.if-n-lt100.true))
-
-pub bounds-out-1 : goal.bounds-out-1
-bounds-out-1 c = simp length-set (omega (arith, c.requires, ap length (decimal_two _ c.if-n-lt10.false c.if-n-lt100.true)))
-
-pub returns-then-n-lt100 : goal.returns-then-n-lt100
-returns-then-n-lt100 c = rw (decimal_two _ c.if-n-lt10.false c.if-n-lt100.true) (record { value = refl; out_after = two_stored _ _ _ (omega (arith, c.requires, ap length (decimal_two _ c.if-n-lt10.false c.if-n-lt100.true))) })
-
-pub bounds-out-0-then-n-lt1000 : goal.bounds-out-0-then-n-lt1000
-bounds-out-0-then-n-lt1000 c = omega (arith, c.requires, ap length (decimal_three _ c.if-n-lt100.false c.if-n-lt1000.true))
-
-pub bounds-out-1-then-n-lt1000 : goal.bounds-out-1-then-n-lt1000
-bounds-out-1-then-n-lt1000 c = simp length-set (omega (arith, c.requires, ap length (decimal_three _ c.if-n-lt100.false c.if-n-lt1000.true)))
-
-pub bounds-out-2 : goal.bounds-out-2
-bounds-out-2 c = simp (length-set, length-set) (omega (arith, c.requires, ap length (decimal_three _ c.if-n-lt100.false c.if-n-lt1000.true)))
-
-pub returns-then-n-lt1000 : goal.returns-then-n-lt1000
-returns-then-n-lt1000 c = rw (decimal_three _ c.if-n-lt100.false c.if-n-lt1000.true) (record { value = refl; out_after = three_stored _ _ _ _ (omega (arith, c.requires, ap length (decimal_three _ c.if-n-lt100.false c.if-n-lt1000.true))) })
+pub returns : goal.returns
+unfolding over
+returns c =
+    let is : text.decimal c.args.n ≡ decimal c.args.n = decimal_text c.args.n (omega arith) in
+    let start : c.write_digits.result ≡ 0 = omega (arith, ap length is, c.write_digits.ensures.start, c.digits_of-len.ensures) in
+    record { value = c.digits_of-len.ensures.0; out_after = rw (start, is, c.digits_of-len.ensures.0) at c.write_digits.ensures.written }

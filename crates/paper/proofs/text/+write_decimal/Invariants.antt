@@ -1,5 +1,0 @@
--- The number falls with each digit.
-use Rattle.paper.proofs.text.+write_decimal.Given as goal
-
-abbrev pub decreases-write_decimal : goal.decreases-write_decimal
-decreases-write_decimal l = l.n

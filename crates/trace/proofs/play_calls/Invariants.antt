@@ -1,8 +1,0 @@
--- The measure is the calls that are left.
-use Rattle.trace.proofs.play_calls.Given as goal
-
-abbrev pub invariant-loop-left : goal.invariant-loop-left
-invariant-loop-left g l = Unit {0}
-
-abbrev pub decreases-loop-left : goal.decreases-loop-left
-decreases-loop-left g l = l.left
