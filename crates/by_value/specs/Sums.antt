@@ -1,6 +1,6 @@
 -- What the bench holds ours to the Rust by: the choices after each call, summed so that each counts by its place. Definitions only.
 use Rattle.std.specs.Prelude.{ℕ, zero, suc, ◌+◌, ◌%◌, ◌^◌, true, false, cond, List, [], ◌∷◌, drop, slice_index_or, ◌==◌}
-use Rattle.limits.specs.declared.reading.Reading.{Reading}
+use Rattle.limits.specs.Readings.{Reading}
 use Rattle.ladder.specs.Tables.{tabled, for_air}
 use Rattle.ladder.specs.Airs.{wide_air, narrow_air}
 use Rattle.rules.specs.declared.types.Frame.{Frame}

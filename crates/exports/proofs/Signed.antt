@@ -9,8 +9,8 @@ use mir.ValLaws.{to_z_pos, to_z-of_z}
 use Rattle.limits.specs.declared.refusal.Refusal.{Refusal}
 use Rattle.limits.specs.declared.refusal.Refusal.TheVariants.{ColumnSize, ColumnsDiffer, TableValue, FloorCount, EmptyFront, UnknownRung, TooManyFrames, OutsideLimits, TooManyBursts, FileHeader, FilePairs, FileBody, SheetRoom, AnswerCount}
 use Rattle.limits.specs.Refusals.{refusal_number}
-use Rattle.limits.specs.declared.refusal.Verdict.{Verdict}
-use Rattle.limits.specs.declared.refusal.Verdict.TheVariants.{Accepted, Refused}
+use Rattle.limits.specs.Refusals.{Verdict}
+use Rattle.std.specs.Prelude.{Ok, Err}
 use Rattle.exports.specs.Status.{minus_number}
 use Rattle.exports.specs.Tables.{verdict_status}
 
@@ -48,8 +48,8 @@ known why z e = kept (refusal_number why) z (small why) e
 
 -- and of 0 or minus one of them
 pub known_status : (v : Verdict) (z : ℤ) → z ≡ verdict_status v → to_z w64 (of_z w64 z) ≡ verdict_status v
-known_status Accepted z e = kept 0 z (omega arith) e
-known_status (Refused why) z e = known why z e
+known_status (Ok _) z e = kept 0 z (omega arith) e
+known_status (Err why) z e = known why z e
 
 -- a count that a u32 holds
 pub counted : (n : ℕ) → n < 4294967296 → to_z w64 n ≡ pos n

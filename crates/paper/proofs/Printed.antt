@@ -8,8 +8,8 @@ use lib.Dec.{leb→le}
 use Rattle.limits.specs.Refusals.{unless}
 use Rattle.limits.specs.declared.refusal.Refusal.{Refusal}
 use Rattle.limits.specs.declared.refusal.Refusal.TheVariants.{ColumnSize, ColumnsDiffer, TableValue, FloorCount, EmptyFront, UnknownRung, TooManyFrames, OutsideLimits, TooManyBursts, FileHeader, FilePairs, FileBody, SheetRoom, AnswerCount}
-use Rattle.limits.specs.declared.refusal.Verdict.{Verdict}
-use Rattle.limits.specs.declared.refusal.Verdict.TheVariants.{Accepted, Refused}
+use Rattle.limits.specs.Refusals.{Verdict}
+use Rattle.std.specs.Prelude.{Ok, Err}
 use Rattle.limits.proofs.Verdicts.{or_else_lem, unless_not}
 use Rattle.question.specs.File.{file_verdict}
 use Rattle.paper.specs.Lines.{digits, decimal, ended, row_of}
@@ -22,7 +22,7 @@ unfolding fitting
 fits text out h = rw (le-leb (length text) (length out) h)
 
 -- an accepted sheet has room
-sheet_room : (s out : List ℕ) → sheet_verdict s out ≡ Accepted → length (sheet_of s) ≤ length out
+sheet_room : (s out : List ℕ) → sheet_verdict s out ≡ Ok tt → length (sheet_of s) ≤ length out
 unfolding sheet_verdict
 sheet_room s out e =
     leb→le (length (sheet_of s)) (length out)
@@ -35,20 +35,20 @@ module _ (s out new : List ℕ) (left : new ≡ sheet_left s out) where
   printed_sheet n e = go (sheet_verdict s out) refl
     where
       go : (v : Verdict) → sheet_verdict s out ≡ v → (n ≡ length (printed_in s out)) × (new ≡ over (printed_in s out) out)
-      go Accepted q =
+      go (Ok tt) q =
           let is : printed_in s out ≡ sheet_of s = rw q (fits (sheet_of s) out (sheet_room s out q)) in
           let length-is : Ok n ≡ Ok (length (sheet_of s)) = e ∙ ap (sheet_by s) q in
           let n-is : n ≡ length (sheet_of s) = cc in
           (n-is ∙ ap length (sym is), left ∙ ap (left_by s out) q ∙ ap (λ text. over text out) (sym is))
-      go (Refused why) q = let z : ◌≡◌ {A = ℕ} 0 1 = cc (e ∙ ap (sheet_by s) q) in absurd (omega arith)
+      go (Err why) q = let z : ◌≡◌ {A = ℕ} 0 1 = cc (e ∙ ap (sheet_by s) q) in absurd (omega arith)
 
   refused_text : (why : Refusal) → Err why ≡ sheet_answer s out → (fitting (refused_bytes why) new ≡ printed_in s out) × (new ≡ out)
   unfolding sheet_answer sheet_left printed_in printed
   refused_text why e = go (sheet_verdict s out) refl
     where
       go : (v : Verdict) → sheet_verdict s out ≡ v → (fitting (refused_bytes why) new ≡ printed_in s out) × (new ≡ out)
-      go Accepted q = let z : ◌≡◌ {A = ℕ} 0 1 = cc (e ∙ ap (sheet_by s) q) in absurd (omega arith)
-      go (Refused y) q =
+      go (Ok _) q = let z : ◌≡◌ {A = ℕ} 0 1 = cc (e ∙ ap (sheet_by s) q) in absurd (omega arith)
+      go (Err y) q =
           let why-is : Err why ≡ Err y = e ∙ ap (sheet_by s) q in
           let same : why ≡ y = cc in
           let kept : new ≡ out = left ∙ ap (left_by s out) q in
@@ -85,5 +85,5 @@ unfolding printed_in printed
 printed_whole s out h = go (sheet_verdict s out) refl
   where
     go : (v : Verdict) → sheet_verdict s out ≡ v → fitting (printed_by s (sheet_verdict s out)) out ≡ printed_by s (sheet_verdict s out)
-    go Accepted q = rw q (fits (sheet_of s) out (sheet_room s out q))
-    go (Refused why) q = rw q (fits (refused_bytes why) out (omega (arith, short_line why)))
+    go (Ok _) q = rw q (fits (sheet_of s) out (sheet_room s out q))
+    go (Err why) q = rw q (fits (refused_bytes why) out (omega (arith, short_line why)))

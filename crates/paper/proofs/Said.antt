@@ -7,7 +7,7 @@ use lib.ListN.{drop_of_length-le}
 use lib.Seq.{drop-cons}
 use mathlib.Core.Logic.{◌⊎◌, inl, inr}
 use Rattle.std.proofs.lemmas.Bool.{cases_lt}
-use Rattle.limits.specs.declared.refusal.Verdict.{Verdict}
+use Rattle.limits.specs.Refusals.{Verdict}
 use Rattle.limits.specs.declared.refusal.Verdict.TheVariants as verdict
 use Rattle.rate.specs.declared.types.RateController.{RateController}
 use Rattle.rate.specs.declared.types.Answer.{Answer}
@@ -33,8 +33,8 @@ unfolding scored line_of
 scored_line_lem m a x = go a.verdict
   where
     go : (v : Verdict) → scored_by m a x v ≡ scored_line m (line_by a v) x
-    go verdict.Accepted = refl
-    go (verdict.Refused why) = refl
+    go verdict.(Ok _) = refl
+    go (verdict.Err why) = refl
 
 score_lines_lem : (m : Score) (k : RateController) (cs : List Call) (xs : List ℕ) → score_from m k cs xs ≡ score_lines m (said_from k cs) xs
 unfolding score_from score_lines said_from

@@ -1,16 +1,14 @@
 -- The sheet of a question file, as the list of its bytes, and its marking: what the two calls return and leave, refused or not. Definitions only.
-use Rattle.std.specs.Prelude.{ℕ, suc, ◌+◌, Bool, true, false, cond, List, [], ◌∷◌, ◌++◌, length, ◌==◌, nat_le, Result, Ok, Err}
+use Rattle.std.specs.Prelude.{ℕ, suc, ◌+◌, Bool, true, false, cond, List, [], ◌∷◌, ◌++◌, length, ◌==◌, nat_le, Option, None, Some, Result, Ok, Err}
 use Rattle.limits.specs.Refusals.{refusal_number, unless, or_else}
 use Rattle.limits.specs.declared.refusal.Refusal.{Refusal}
 use Rattle.limits.specs.declared.refusal.Refusal.TheVariants.{SheetRoom, AnswerCount}
-use Rattle.limits.specs.declared.refusal.Verdict.{Verdict}
-use Rattle.limits.specs.declared.refusal.Verdict.TheVariants.{Accepted, Refused}
+use Rattle.limits.specs.Refusals.{Verdict}
 use Rattle.ladder.specs.Lists.{tabulate}
 use Rattle.rules.specs.Echo.{refuses}
 use Rattle.rate.specs.declared.types.RateController.{RateController}
 use Rattle.rate.specs.declared.types.Answer.{Answer}
-use Rattle.rate.specs.declared.types.Probing.{Probing}
-use Rattle.rate.specs.declared.types.Probing.TheVariants.{Nothing, At}
+use Rattle.ladder.specs.declared.types.Rung.{Rung}
 use Rattle.rate.specs.Calls.{Call, step}
 use Rattle.rate.specs.Reads.{choice_of, probing_of}
 use Rattle.question.specs.Body.{call_of}
@@ -38,17 +36,17 @@ abbrev pub Line : Type 0
 Line = Result Outcome Refusal
 
 abbrev pub line_by : Answer → Verdict → Line
-line_by a Accepted =
+line_by a (Ok _) =
     Ok (record { choice = choice_of a.controller; tried = probing_of a.controller; ofdm_refused = ofdm_refused a.controller; ended = a.ended; begun = a.begun })
-line_by a (Refused why) = Err why
+line_by a (Err why) = Err why
 
 unfoldable pub line_of : Answer → Line
 line_of a = line_by a a.verdict
 
 -- "tried rung or `-`"
-abbrev pub tried_cell : Probing → Cell
-tried_cell Nothing = Dash
-tried_cell (At r) = Number r.0
+abbrev pub tried_cell : Option Rung → Cell
+tried_cell None = Dash
+tried_cell (Some r) = Number r.0
 
 -- 1 where it holds, 0 where not
 abbrev pub flag_cell : Bool → Cell
@@ -89,24 +87,24 @@ sheet_verdict s out = or_else (file_verdict s) (room_verdict s out)
 
 -- "The library call returns the sheet's length"
 abbrev pub sheet_by : List ℕ → Verdict → Result ℕ Refusal
-sheet_by s Accepted = Ok (length (sheet_of s))
-sheet_by s (Refused why) = Err why
+sheet_by s (Ok _) = Ok (length (sheet_of s))
+sheet_by s (Err why) = Err why
 
 unfoldable pub sheet_answer : List ℕ → List ℕ → Result ℕ Refusal
 sheet_answer s out = sheet_by s (sheet_verdict s out)
 
 -- "bytes of the output slice past the sheet stay"; refused: "Left as it was: output slice"
 abbrev pub left_by : List ℕ → List ℕ → Verdict → List ℕ
-left_by s out Accepted = over (sheet_of s) out
-left_by s out (Refused why) = out
+left_by s out (Ok _) = over (sheet_of s) out
+left_by s out (Err why) = out
 
 unfoldable pub sheet_left : List ℕ → List ℕ → List ℕ
 sheet_left s out = left_by s out (sheet_verdict s out)
 
 -- what the program prints
 abbrev pub printed_by : List ℕ → Verdict → List ℕ
-printed_by s Accepted = sheet_of s
-printed_by s (Refused why) = refused_bytes why
+printed_by s (Ok _) = sheet_of s
+printed_by s (Err why) = refused_bytes why
 
 unfoldable pub printed : List ℕ → List ℕ → List ℕ
 printed s out = printed_by s (sheet_verdict s out)
@@ -122,8 +120,8 @@ printed_in s out = fitting (printed s out) out
 -- ---- marking
 -- "right if it equals the choice after that event; refused events don't count"
 abbrev pub scored_by : Score → Answer → ℕ → Verdict → Score
-scored_by m a x Accepted = record { right = m.right + cond (x == (choice_of a.controller).0) 1 0; counted = m.counted + 1 }
-scored_by m a x (Refused why) = m
+scored_by m a x (Ok _) = record { right = m.right + cond (x == (choice_of a.controller).0) 1 0; counted = m.counted + 1 }
+scored_by m a x (Err why) = m
 
 unfoldable pub scored : Score → Answer → ℕ → Score
 scored m a x = scored_by m a x a.verdict
@@ -143,8 +141,8 @@ unfoldable pub mark_verdict : List ℕ → List ℕ → Verdict
 mark_verdict s answers = or_else (file_verdict s) (unless (length answers == event_count s) AnswerCount)
 
 abbrev pub marked_by : List ℕ → List ℕ → Verdict → Result Score Refusal
-marked_by s answers Accepted = Ok (score_of s answers)
-marked_by s answers (Refused why) = Err why
+marked_by s answers (Ok _) = Ok (score_of s answers)
+marked_by s answers (Err why) = Err why
 
 unfoldable pub mark_answer : List ℕ → List ℕ → Result Score Refusal
 mark_answer s answers = marked_by s answers (mark_verdict s answers)

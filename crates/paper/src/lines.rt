@@ -8,19 +8,19 @@ ghost use Rattle.paper.specs.bridges.Said.{flag_cells};
 
 use crate::text::{digits_of, write_bytes, write_field};
 use crate::types::{Line, Outcome};
+use ladder::types::Rung;
 use limits::refusal::Refusal;
-use rate::types::Probing;
 
 // ---- pieces
 // The tried rung or `-`, and a space.
-fn write_tried(out: &mut [u8], tried: Probing) -> usize
+fn write_tried(out: &mut [u8], tried: Option<Rung>) -> usize
     requires { length (ended (tried_cell tried) 32) ≤ length out.old }
     ensures value { result ≡ length (ended (tried_cell tried) 32) }
     ensures out_after { out.new ≡ over (ended (tried_cell tried) 32) out.old }
 {
     match tried {
-        Probing::At(rung) => write_field(out, rung.0, b' '),
-        Probing::Nothing => write_bytes(out, b"- "),
+        Some(rung) => write_field(out, rung.0, b' '),
+        None => write_bytes(out, b"- "),
     }
 }
 
@@ -95,12 +95,12 @@ pub(crate) fn write_line(out: &mut [u8], event: u32, line: Line) -> usize
 
 // ---- lengths
 // How long the tried rung or `-` is.
-fn tried_length(tried: Probing) -> usize
+fn tried_length(tried: Option<Rung>) -> usize
     ensures { (result ≡ length (cell_bytes (tried_cell tried))) × (result ≤ 10) }
 {
     match tried {
-        Probing::At(rung) => digits_of(rung.0),
-        Probing::Nothing => 1,
+        Some(rung) => digits_of(rung.0),
+        None => 1,
     }
 }
 

@@ -6,7 +6,7 @@ ghost use Rattle.paper.specs.bridges.Said.{scored_line, score_lines};
 
 use crate::run::{NO_LINE, run};
 use crate::types::{Line, Score};
-use limits::refusal::{Refusal, Verdict};
+use limits::refusal::Refusal;
 use question::file::event_count;
 use question::verdict::file_verdict;
 
@@ -70,13 +70,9 @@ fn run_score(file: &[u8], answers: &[u8]) -> Score
 pub fn mark(question: &[u8], answers: &[u8]) -> Result<Score, Refusal>
     ensures { result ≡ mark_answer question.now answers.now }
 {
-    match file_verdict(question) {
-        Verdict::Accepted => {
-            if answers.len() != event_count(question) as usize {
-                return Err(Refusal::AnswerCount);
-            }
-            Ok(run_score(question, answers))
-        }
-        Verdict::Refused(why) => Err(why),
+    file_verdict(question)?;
+    if answers.len() != event_count(question) as usize {
+        return Err(Refusal::AnswerCount);
     }
+    Ok(run_score(question, answers))
 }

@@ -7,13 +7,12 @@ ghost use Rattle.paper.specs.bridges.Said.{said};
 
 use crate::types::{Line, Outcome};
 use ladder::types::Rung;
-use limits::refusal::Verdict;
 use question::event::play;
 use question::file::air;
 use question::reader::Reader;
 use question::start::fresh_for;
 use rate::player::Player;
-use rate::types::{Probing, RateController, Reply};
+use rate::types::{RateController, Reply};
 
 // Whether every OFDM rung is refused: the first one is past the floor rungs, and what is said of it is said of all.
 fn refuses_ofdm(k: &RateController) -> bool
@@ -27,22 +26,20 @@ fn refuses_ofdm(k: &RateController) -> bool
 fn line_of(k: &RateController, reply: Reply) -> Line
     ensures { result ≡ line_of (answer_of k.now reply) }
 {
-    match reply.verdict {
-        Verdict::Accepted => Ok(Outcome {
-            choice: k.choice(),
-            tried: k.probing(),
-            ofdm_refused: refuses_ofdm(k),
-            ended: reply.ended,
-            begun: reply.begun,
-        }),
-        Verdict::Refused(why) => Err(why),
-    }
+    let marks = reply?;
+    Ok(Outcome {
+        choice: k.choice(),
+        tried: k.probing(),
+        ofdm_refused: refuses_ofdm(k),
+        ended: marks.ended,
+        begun: marks.begun,
+    })
 }
 
 // What stands in a line's place before the run: all its bytes are 0, so that an array of it is sooner made.
 pub(crate) const NO_LINE: Line = Ok(Outcome {
     choice: Rung(0),
-    tried: Probing::Nothing,
+    tried: None,
     ofdm_refused: false,
     ended: false,
     begun: false,

@@ -8,7 +8,7 @@ ghost use Rattle.paper.specs.bridges.Said.{text_from};
 use crate::lines::{line_length, refused_length, write_line, write_refused};
 use crate::run::{NO_LINE, run};
 use crate::types::Line;
-use limits::refusal::{Refusal, Verdict};
+use limits::refusal::Refusal;
 use question::file::event_count;
 use question::verdict::file_verdict;
 
@@ -75,10 +75,8 @@ pub fn sheet(question: &[u8], out: &mut [u8]) -> Result<usize, Refusal>
     ensures out_after { out.new ≡ sheet_left question.now out.old }
     ensures within { IfOk result (λ len. len ≤ length out.old) }
 {
-    match file_verdict(question) {
-        Verdict::Accepted => run_sheet(question, out),
-        Verdict::Refused(why) => Err(why),
-    }
+    file_verdict(question)?;
+    run_sheet(question, out)
 }
 
 // The line of a refused file, if it has room.

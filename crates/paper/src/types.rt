@@ -1,15 +1,14 @@
 // What the paper's functions hand on and answer.
 use ladder::types::Rung;
 use limits::refusal::Refusal;
-use rate::types::Probing;
 use std::fmt;
 use std::fmt::{Display, Formatter, Write};
 
 // What a line says of an event that is accepted, beside its number.
-#[derive(Clone, Copy)]
+#[derive(Clone, Copy, PartialEq, Eq, Debug)]
 pub struct Outcome {
     pub choice: Rung,
-    pub tried: Probing,
+    pub tried: Option<Rung>,
     pub ofdm_refused: bool,
     pub ended: bool,
     pub begun: bool,
@@ -19,7 +18,7 @@ pub struct Outcome {
 pub type Line = Result<Outcome, Refusal>;
 
 // How many answers are right, of those that count.
-#[derive(Clone, Copy)]
+#[derive(Clone, Copy, PartialEq, Eq, Debug)]
 pub struct Score {
     pub right: u32,
     pub counted: u32,

@@ -9,7 +9,7 @@ use native.Mathlib.Omega.{arith}
 use lib.Ieee.Fits.{and_r}
 use Rattle.limits.specs.Refusals.{unless}
 use Rattle.limits.specs.declared.refusal.Refusal.TheVariants.{FileHeader}
-use Rattle.limits.specs.declared.refusal.Verdict.TheVariants.{Accepted}
+use Rattle.std.specs.Prelude.{Ok, Err}
 use Rattle.limits.proofs.Verdicts.{or_else_lem, unless_not}
 use Rattle.std.specs.List.{list_all, enumerate_from}
 use Rattle.std.proofs.lemmas.List.FromFn.{length-enumerate_from, get_or-enumerate_from}
@@ -74,7 +74,7 @@ pub bodies_good : (s : List ℕ) → list_all ok_body (bodies_from s 0) ≡ ok_b
 unfolding bodies_from ok_bodies ok_body_at
 bodies_good s = ap (list_all ok_body) (tabulate_all (body_at s) (event_count s)) ∙ all_tabulate (event_count s) 0 (body_at s) ok_body
 
-pub few_events : (s : List ℕ) → file_verdict s ≡ Accepted → event_count s ≤ 1000
+pub few_events : (s : List ℕ) → file_verdict s ≡ Ok tt → event_count s ≤ 1000
 unfolding file_verdict ok_header
 few_events s e =
     let h = unless_not (ok_header s) FileHeader (or_else_lem (unless (ok_header s) FileHeader) _ e).0 in

@@ -6,8 +6,8 @@ use borrow.Author.Tests.{lt-leb}
 use lib.ListN.{length, take}
 use lib.Seq.{take_all, take_at}
 use Rattle.limits.specs.declared.refusal.Refusal.TheVariants.{TooManyFrames}
-use Rattle.limits.specs.declared.refusal.Verdict.TheVariants.{Refused}
-use Rattle.limits.specs.declared.reading.Reading.{Reading}
+use Rattle.std.specs.Prelude.{Ok, Err}
+use Rattle.limits.specs.Readings.{Reading}
 use Rattle.rules.specs.declared.types.Frame.{Frame}
 use Rattle.rate.specs.declared.types.RateController.{RateController}
 use Rattle.rate.specs.Calls.{Frames, verdict, refused, step}
@@ -20,6 +20,6 @@ unfolding first_of over
 all_held m n d xs h e = rw (take_all m xs h) (take_at xs _ n (sym e))
 
 -- over 256 frames
-pub many_frames : (k : RateController) (fs : List Frame) (snr : Reading) → 256 < length fs → step k (Frames fs snr) ≡ refused k (Refused TooManyFrames)
+pub many_frames : (k : RateController) (fs : List Frame) (snr : Reading) → 256 < length fs → step k (Frames fs snr) ≡ refused k (Err TooManyFrames)
 unfolding step verdict
 many_frames k fs snr h = rw (lt-leb (length fs) 256 h)

@@ -2,8 +2,8 @@
 -- with the bytes before it dropped. A byte past the end reads as 0. Definitions only.
 use Rattle.std.specs.Prelude.{Bool, ◌&&◌, ◌||◌, cond, List, ℕ, ◌+◌, ◌*◌, ◌^◌, eqb, get_or, drop, Float}
 use Rattle.float.specs.Numbers.{f64}
-use Rattle.limits.specs.declared.reading.Reading.{Reading}
-use Rattle.limits.specs.declared.reading.Reading.TheVariants.{Missing, Value}
+use Rattle.limits.specs.Readings.{Reading}
+use Rattle.std.specs.Prelude.{None, Some}
 
 abbrev pub byte : List ℕ → ℕ → ℕ
 byte s i = get_or s i 0
@@ -28,4 +28,4 @@ unfoldable pub ok_reading : List ℕ → Bool
 ok_reading s = eqb (byte s 0) 1 || eqb (byte s 0) 0 && eqb (le64 (drop 1 s)) 0
 
 unfoldable pub reading_of : List ℕ → Reading
-reading_of s = cond (eqb (byte s 0) 1) (Value (float (drop 1 s))) Missing
+reading_of s = cond (eqb (byte s 0) 1) (Some (float (drop 1 s))) None

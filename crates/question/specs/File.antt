@@ -3,7 +3,7 @@ use Rattle.std.specs.Prelude.{Bool, ◌&&◌, ◌||◌, List, ℕ, zero, suc, �
 use Rattle.ladder.specs.Lists.{tabulate}
 use Rattle.limits.specs.Refusals.{unless, or_else}
 use Rattle.limits.specs.declared.refusal.Refusal.TheVariants.{FileHeader, FilePairs, FileBody}
-use Rattle.limits.specs.declared.refusal.Verdict.{Verdict}
+use Rattle.limits.specs.Refusals.{Verdict}
 use Rattle.question.specs.Bytes.{le32}
 use Rattle.question.specs.Body.{all_from, ok_body}
 

@@ -84,7 +84,7 @@ pub fn reading_of(bytes: &[u8]) -> Reading
     ensures { result ≡ reading_of bytes.now }
 {
     match byte_at(bytes, 0) {
-        1 => Reading::Value(f64_of(past(bytes, 1))),
-        _ => Reading::Missing,
+        1 => Some(f64_of(past(bytes, 1))),
+        _ => None,
     }
 }

@@ -12,7 +12,7 @@ use crate::bytes::{byte_at, f64_of, past, reading_of, u32_of};
 use crate::types::Kind;
 use limits::refusal::Refusal;
 use rate::calls::answer;
-use rate::moves::{ok_lengths, refused};
+use rate::moves::ok_lengths;
 use rate::player::Player;
 use rate::types::{Answer, RateController, Reply};
 
@@ -34,7 +34,7 @@ fn frames_event(p: &mut Player, body: &[u8]) -> Reply
         0..=1 => frames_in::<1>(p, body),
         2..=16 => frames_in::<16>(p, body),
         17..=256 => frames_in::<256>(p, body),
-        _ => refused(Refusal::TooManyFrames),
+        _ => Err(Refusal::TooManyFrames),
     }
 }
 
@@ -87,9 +87,9 @@ fn prices_event(p: &mut Player, body: &[u8]) -> Reply
         return p.price_exchanges(floor, ordinary, gap, &bursts_of(body)[..count]);
     }
     if ok_prices(floor, ordinary, gap, body) {
-        return refused(Refusal::TooManyBursts);
+        return Err(Refusal::TooManyBursts);
     }
-    refused(Refusal::OutsideLimits)
+    Err(Refusal::OutsideLimits)
 }
 
 // Kind 7. Refused: 8.

@@ -14,7 +14,7 @@ pub fn fresh_for(air: u32) -> RateController
     ensures { result ≡ fresh_for air }
 {
     match Bandwidth::try_from(air) {
-        Ok(Bandwidth::Wide) => fresh(for_air(wide_table().table, true)),
-        Ok(Bandwidth::Narrow) | Err(_) => fresh(for_air(narrow_table().table, false)),
+        Ok(Bandwidth::Wide) => fresh(for_air(wide_table().unwrap(), true)),
+        Ok(Bandwidth::Narrow) | Err(_) => fresh(for_air(narrow_table().unwrap(), false)),
     }
 }

@@ -20,12 +20,12 @@ pub fn file_verdict(file: &[u8]) -> Verdict
     ensures { result ≡ file_verdict file.now }
 {
     if !ok_header(file) {
-        Verdict::Refused(Refusal::FileHeader)
+        Err(Refusal::FileHeader)
     } else if !ok_pairs(file) {
-        Verdict::Refused(Refusal::FilePairs)
+        Err(Refusal::FilePairs)
     } else if !ok_bodies(file) {
-        Verdict::Refused(Refusal::FileBody)
+        Err(Refusal::FileBody)
     } else {
-        Verdict::Accepted
+        Ok(())
     }
 }

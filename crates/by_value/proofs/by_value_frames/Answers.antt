@@ -1,7 +1,7 @@
 -- Each turn is one frame of the definition, at a variable number of frames left; an array's frame is read in range, where the default does not matter.
 use Rattle.std.proofs.Common.{◌≡◌, ◌-◌, ◌+◌, ℕ, suc, List, ◌∷◌, [], length, get_or, drop, ap, refl, ◌∙◌, arith, rules}
 use native.Mathlib.Numerals.{add-one}
-use Rattle.limits.specs.declared.reading.Reading.{Reading}
+use Rattle.limits.specs.Readings.{Reading}
 use Rattle.ladder.proofs.Arrays.{any_default, of_parts}
 use Rattle.rules.specs.declared.types.Frame.{Frame}
 use Rattle.rate.specs.declared.types.RateController.{RateController}

@@ -3,8 +3,8 @@ use mathlib.Core.Path.{◌≡◌, refl, ap, ◌∙◌}
 use lib.IntN.{ℤ}
 use mir.Syntax.{w64}
 use mir.Val.{to_z, of_z}
-use Rattle.limits.specs.declared.refusal.Verdict.{Verdict}
-use Rattle.limits.specs.declared.refusal.Verdict.TheVariants.{Accepted, Refused}
+use Rattle.limits.specs.Refusals.{Verdict}
+use Rattle.std.specs.Prelude.{Ok, Err}
 use Rattle.ladder.specs.declared.table.Tabled.{Tabled}
 use Rattle.ladder.specs.Tables.{Columns, table_verdict, tabled_if, tabled}
 use Rattle.exports.specs.Tables.{verdict_status}
@@ -12,8 +12,8 @@ use Rattle.exports.proofs.Signed.{known_status}
 use Rattle.exports.proofs.tables.rate_table_refusal.Goals as goal
 
 of_verdict : (c : Columns) (v : Verdict) → (tabled_if v c).verdict ≡ v
-of_verdict c Accepted = refl
-of_verdict c (Refused why) = refl
+of_verdict c (Ok _) = refl
+of_verdict c (Err why) = refl
 
 verdict_of : (c : Columns) → (tabled c).verdict ≡ table_verdict c
 unfolding tabled

@@ -2,7 +2,7 @@
 use mathlib.Core.Path.{refl}
 use native.Mathlib.Omega.{arith}
 use lib.ListN.{replicate}
-use Rattle.limits.specs.declared.reading.Reading.TheVariants.{Missing}
+use Rattle.std.specs.Prelude.{None, Some}
 use Rattle.ladder.proofs.Tabulating.{tabulating_starts, tabulating_stores, tabulating_ends}
 use Rattle.exports.specs.Tables.{reading_at, readings_of}
 use Rattle.exports.proofs.tables.readings_of.Goals as goal
@@ -10,7 +10,7 @@ use Rattle.exports.proofs.tables.readings_of.Goals as goal
 pub loop-i-init : goal.loop-i-init
 loop-i-init c =
     let a = c.args in
-    tabulating_starts (reading_at a.known.now a.limits.now) 32 (replicate 32 Missing) refl
+    tabulating_starts (reading_at a.known.now a.limits.now) 32 (replicate 32 None) refl
 
 pub loop-i-smaller : goal.loop-i-smaller
 loop-i-smaller c = omega arith

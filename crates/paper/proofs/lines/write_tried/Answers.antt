@@ -5,8 +5,8 @@ use Rattle.paper.proofs.lines.write_tried.Goals as goal
 
 pub write_bytes-requires : goal.write_bytes-requires
 unfolding ended
-write_bytes-requires c = rw c.in-Nothing.is at c.requires
+write_bytes-requires c = rw c.in-None.is at c.requires
 
-pub returns-in-Nothing : goal.returns-in-Nothing
+pub returns-in-None : goal.returns-in-None
 unfolding ended
-returns-in-Nothing c = rw c.in-Nothing.is (record { value = c.write_bytes.ensures.value; out_after = c.write_bytes.ensures.out_after })
+returns-in-None c = rw c.in-None.is (record { value = c.write_bytes.ensures.value; out_after = c.write_bytes.ensures.out_after })

@@ -7,22 +7,22 @@ use Rattle.question.proofs.Events.{few_events}
 use Rattle.paper.proofs.mark.mark.Goals as goal
 
 pub run_score-requires : goal.run_score-requires
-run_score-requires c = few_events _ (sym c.file_verdict.ensures ∙ c.in-Accepted.is)
+run_score-requires c = few_events _ (sym c.file_verdict.ensures ∙ c.in-(Ok tt).is)
 
 pub returns-then-answers-event_count : goal.returns-then-answers-event_count
 unfolding mark_answer mark_verdict
 returns-then-answers-event_count c =
     let a = c.args in
     let e = ne_eqb (length a.answers.now) (event_count a.question.now) (λ h. c.if-answers-event_count.true (h ∙ sym c.event_count.ensures)) in
-    rw (← c.file_verdict.ensures, c.in-Accepted.is, e)
+    rw (← c.file_verdict.ensures, c.in-(Ok tt).is, e)
 
 pub returns-else-answers-event_count : goal.returns-else-answers-event_count
 unfolding mark_answer mark_verdict
 returns-else-answers-event_count c =
     let a = c.args in
     let e = eq-eqb (length a.answers.now) (event_count a.question.now) (c.if-answers-event_count.false ∙ c.event_count.ensures) in
-    rw (← c.file_verdict.ensures, c.in-Accepted.is, e) (ap Ok c.run_score.ensures)
+    rw (← c.file_verdict.ensures, c.in-(Ok tt).is, e) (ap Ok c.run_score.ensures)
 
-pub returns-in-Refused : goal.returns-in-Refused
+pub returns-in-Err : goal.returns-in-Err
 unfolding mark_answer mark_verdict
-returns-in-Refused c = rw (← c.file_verdict.ensures, c.in-Refused.is)
+returns-in-Err c = rw (← c.file_verdict.ensures, c.in-Err.is)

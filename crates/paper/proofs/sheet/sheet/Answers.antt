@@ -5,14 +5,14 @@ use Rattle.question.proofs.Events.{few_events}
 use Rattle.paper.proofs.sheet.sheet.Goals as goal
 
 pub run_sheet-requires : goal.run_sheet-requires
-run_sheet-requires c = few_events _ (sym c.file_verdict.ensures ∙ c.in-Accepted.is)
+run_sheet-requires c = few_events _ (sym c.file_verdict.ensures ∙ c.in-(Ok tt).is)
 
-pub returns-in-Accepted : goal.returns-in-Accepted
+pub returns-in-(Ok tt) : goal.returns-in-(Ok tt)
 unfolding sheet_verdict sheet_answer sheet_left
-returns-in-Accepted c =
+returns-in-(Ok tt) c =
     let s = c.run_sheet.ensures in
-    rw (← c.file_verdict.ensures, c.in-Accepted.is) (record { value = s.value; out_after = s.out_after; within = s.within })
+    rw (← c.file_verdict.ensures, c.in-(Ok tt).is) (record { value = s.value; out_after = s.out_after; within = s.within })
 
-pub returns-in-Refused : goal.returns-in-Refused
+pub returns-in-Err : goal.returns-in-Err
 unfolding sheet_verdict sheet_answer sheet_left
-returns-in-Refused c = rw (← c.file_verdict.ensures, c.in-Refused.is) (record { value = refl; out_after = refl; within = tt })
+returns-in-Err c = rw (← c.file_verdict.ensures, c.in-Err.is) (record { value = refl; out_after = refl; within = tt })
