@@ -1,5 +1,6 @@
 // The causes of a refusal. The paper's number for each is `refusal_number` of specs/Refusals.antt.
-ghost use Rattle.std.specs.Prelude.{◌≡◌};
+ghost use Rattle.std.specs.Prelude.{◌≡◌, ◌++◌, Some, codes};
+ghost use Rattle.std.specs.Fmt.{decimal};
 ghost use Rattle.limits.specs.Refusals.{refusal_number};
 
 use std::error::Error;
@@ -51,6 +52,8 @@ impl Refusal {
 }
 
 impl fmt::Display for Refusal {
+    ghost output = { λ why. Some (codes "refused " ++ decimal (refusal_number why)) };
+
     fn fmt<W: fmt::Write>(&self, f: &mut fmt::Formatter<W>) -> fmt::Result {
         write!(f, "refused {}", self.number())
     }
