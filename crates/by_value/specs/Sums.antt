@@ -1,15 +1,14 @@
 -- What the bench holds ours to the Rust by: the choices after each call, summed so that each counts by its place. Definitions only.
-use Rattle.std.specs.Prelude.{ℕ, zero, suc, ◌+◌, ◌%◌, ◌^◌, true, false, cond, List, [], ◌∷◌, drop, slice_index_or, ◌==◌}
+use Rattle.std.specs.Prelude.{ℕ, zero, suc, ◌+◌, ◌%◌, ◌^◌, List, [], ◌∷◌, drop, slice_index_or}
 use Rattle.limits.specs.Readings.{Reading}
-use Rattle.ladder.specs.Tables.{tabled, for_air}
-use Rattle.ladder.specs.Airs.{wide_air, narrow_air}
 use Rattle.rules.specs.declared.types.Frame.{Frame}
 use Rattle.rate.specs.declared.types.RateController.{RateController}
-use Rattle.rate.specs.Calls.{Frames, fresh_controller, step}
+use Rattle.rate.specs.Calls.{Frames, step}
 use Rattle.rate.specs.Reads.{choice_of}
 use Rattle.question.specs.Bytes.{reading_of}
-use Rattle.question.specs.Body.{no_frame, frames_in, batch_of, call_of}
+use Rattle.question.specs.Body.{no_frame, frames_in, first_of, call_of}
 use Rattle.question.specs.File.{event_count, air, body_at}
+use Rattle.question.specs.Start.{fresh_for}
 pub use Rattle.by_value.specs.declared.Sums.{Sums}
 
 abbrev pub none : Sums
@@ -18,10 +17,6 @@ none = record { plain = 0; placed = 0 }
 -- one choice more; both sums are u32 that wrap
 abbrev pub added : Sums → ℕ → Sums
 added s r = record { plain = (s.plain + r) % 2 ^ 32; placed = (s.placed + (s.plain + r) % 2 ^ 32) % 2 ^ 32 }
-
--- a fresh controller of an air by its number: 1 wide, else narrow
-unfoldable pub fresh_for : ℕ → RateController
-fresh_for n = cond (n == 1) (fresh_controller (for_air (tabled wide_air).table true)) (fresh_controller (for_air (tabled narrow_air).table false))
 
 -- n events of a file from the i-th on
 unfoldable pub event_sums : ℕ → ℕ → List ℕ → RateController → Sums → Sums
@@ -43,4 +38,4 @@ events_of file = (event_sums (event_count file) 0 file (fresh_for (air file)) no
 abbrev pub frames_of_first : List ℕ → ℕ
 frames_of_first file =
     let body = body_at file 0 in
-    (frame_sums 256 0 (batch_of (frames_in body)).frames (reading_of (drop 1 body)) (fresh_for (air file)) none).placed
+    (frame_sums 256 0 (first_of 256 no_frame (frames_in body)) (reading_of (drop 1 body)) (fresh_for (air file)) none).placed

@@ -10,13 +10,13 @@ unfolding event_sums
 loop-i-preserved c =
     let l = c.loop-i in
     let n = event_count c.args.file.now in
-    let left : n - l.i ≡ suc (n - suc l.i) = omega (arith, c.loop-i-test.true, c.event_count-count.ensures) in
-    rw (c.add-more.ensures, c.choice.ensures, c.answer_event-a.ensures, c.body_at.ensures, add-one l.i) (rw left at l.invariant)
+    let left : n - l.i ≡ suc (n - suc l.i) = omega (arith, c.loop-i-test.true, c.event_count-i-end.ensures) in
+    rw (c.add-sums.ensures, c.choice.ensures, c.answer_event.ensures, c.body_at.ensures, add-one l.i) (rw left at l.invariant)
 
 pub returns : goal.returns
 unfolding event_sums
 returns c =
     let l = c.loop-i in
     let n = event_count c.args.file.now in
-    let left : n - l.i ≡ 0 = omega (arith, c.loop-i-test.false, c.event_count-count.ensures) in
+    let left : n - l.i ≡ 0 = omega (arith, c.loop-i-test.false, c.event_count-i-end.ensures) in
     ap (λ (s : Sums). s.placed) (rw left at l.invariant)

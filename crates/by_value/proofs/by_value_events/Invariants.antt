@@ -1,7 +1,8 @@
 -- The events from the i-th on give what all give from the start.
 use Rattle.std.proofs.Common.{◌≡◌, ◌-◌}
 use Rattle.question.specs.File.{event_count, air}
-use Rattle.by_value.specs.Sums.{none, fresh_for, event_sums}
+use Rattle.question.specs.Start.{fresh_for}
+use Rattle.by_value.specs.Sums.{none, event_sums}
 use Rattle.by_value.proofs.by_value_events.Given as goal
 
 abbrev pub invariant-loop-i : goal.invariant-loop-i

@@ -1,5 +1,5 @@
 -- Each turn is one frame of the definition, at a variable number of frames left; an array's frame is read in range, where the default does not matter.
-use Rattle.std.proofs.Common.{◌≡◌, ◌-◌, ◌+◌, ℕ, suc, List, ◌∷◌, [], length, get_or, drop, ap, refl, ◌∙◌, arith, rules}
+use Rattle.std.proofs.Common.{◌≡◌, ◌-◌, ◌+◌, ℕ, suc, List, ◌∷◌, [], length, get_or, ap, refl, ◌∙◌, arith, rules}
 use native.Mathlib.Numerals.{add-one}
 use Rattle.limits.specs.Readings.{Reading}
 use Rattle.ladder.proofs.Arrays.{any_default, of_parts}
@@ -7,11 +7,10 @@ use Rattle.rules.specs.declared.types.Frame.{Frame}
 use Rattle.rate.specs.declared.types.RateController.{RateController}
 use Rattle.rate.specs.Calls.{Frames, step}
 use Rattle.rate.specs.Reads.{choice_of}
-use Rattle.question.specs.Bytes.{reading_of}
-use Rattle.question.specs.declared.types.Batch.{Batch}
-use Rattle.question.specs.Body.{no_frame, frames_in, batch_of}
-use Rattle.question.specs.File.{air, body_at}
-use Rattle.by_value.specs.Sums.{Sums, none, added, fresh_for, frame_sums}
+use Rattle.question.specs.Body.{no_frame}
+use Rattle.question.specs.File.{air}
+use Rattle.question.specs.Start.{fresh_for}
+use Rattle.by_value.specs.Sums.{Sums, none, added, frame_sums}
 use Rattle.by_value.proofs.by_value_frames.Goals as goal
 
 module _ (i : ℕ) (frames : List Frame) (snr : Reading) (k : RateController) (s : Sums) where
@@ -26,29 +25,19 @@ module _ (i : ℕ) (frames : List Frame) (snr : Reading) (k : RateController) (s
   unfolding frame_sums
   done n e = rw e refl
 
-pub loop-i-preserved : goal.loop-i-preserved
-loop-i-preserved c =
-    let l = c.loop-i in
-    let frames = c.frames_of-batch.result.frames in
-    let snr = c.reading_of-snr.result in
-    let left : 256 - l.i ≡ suc (256 - (l.i + 1)) = omega (arith, c.loop-i-test.true) in
+pub loop-frame-preserved : goal.loop-frame-preserved
+loop-frame-preserved c =
+    let l = c.loop-frame in
+    let n = l.frame-index in
+    let frames = c.frames_of-frames.result in
     let long : length frames ≡ 256 = search (rules, of_parts) in
-    let read = any_default frames l.i _ no_frame (omega (arith, long, c.loop-i-test.true)) in
-    rw (c.add-more.ensures, c.choice.ensures, c.observe_frame-a.ensures) (turn l.i frames snr l.k l.sums (256 - l.i) (256 - (l.i + 1)) _ left read ∙ l.invariant)
-
--- what is read of the file first
-module _ (body : List ℕ) (k : RateController) where
-  told : (snr : Reading) (batch : Batch) (part : List ℕ) → snr ≡ reading_of part → part ≡ drop 1 body → batch ≡ batch_of (frames_in body)
-      → frame_sums 256 0 batch.frames snr k none ≡ frame_sums 256 0 (batch_of (frames_in body)).frames (reading_of (drop 1 body)) k none
-  told snr batch part e f g = rw (e, f, g) refl
+    let left : 256 - n ≡ suc (256 - (n + 1)) = omega (arith, c.loop-frame-test.true) in
+    let read = any_default frames n _ no_frame (omega (arith, long, c.loop-frame-test.true)) in
+    rw (c.add-sums.ensures, c.choice.ensures, c.observe_frame.ensures) (turn n frames c.reading_of-snr.result l.k l.sums (256 - n) (256 - (n + 1)) _ left read ∙ l.invariant)
 
 pub returns : goal.returns
 returns c =
-    let l = c.loop-i in
-    let frames = c.frames_of-batch.result.frames in
-    let snr = c.reading_of-snr.result in
-    let file = c.args.file.now in
-    let body = body_at file 0 in
-    let left : 256 - l.i ≡ 0 = omega (arith, c.loop-i-test.false) in
-    let read = told body (fresh_for (air file)) snr c.frames_of-batch.result _ c.reading_of-snr.ensures (c.past.ensures ∙ ap (drop 1) c.body_at-body.ensures) (c.frames_of-batch.ensures ∙ ap (λ b. batch_of (frames_in b)) c.body_at-body.ensures) in
-    ap (λ (s : Sums). s.placed) (done l.i frames snr l.k l.sums (256 - l.i) left ∙ l.invariant ∙ read)
+    let l = c.loop-frame in
+    let left : 256 - l.frame-index ≡ 0 = omega (arith, c.loop-frame-test.false) in
+    let sums : l.sums ≡ frame_sums 256 0 c.frames_of-frames.result c.reading_of-snr.result (fresh_for (air c.args.file.now)) none = done l.frame-index c.frames_of-frames.result c.reading_of-snr.result l.k l.sums (256 - l.frame-index) left ∙ l.invariant in
+    ap (λ (s : Sums). s.placed) (rw (c.frames_of-frames.ensures, c.reading_of-snr.ensures, c.past.ensures, c.body_at-body.ensures) at sums)

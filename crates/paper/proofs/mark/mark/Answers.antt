@@ -1,5 +1,5 @@
 -- The file's verdict, then the answer count, in the definition's order.
-use Rattle.std.proofs.Common.{length, ap, sym, ◌∙◌, Ok, arith}
+use Rattle.std.proofs.Common.{length, ap, sym, ◌∙◌, Ok}
 use borrow.Author.Tests.{eq-eqb, ne_eqb}
 use Rattle.question.specs.File.{event_count}
 use Rattle.paper.specs.Sheet.{mark_verdict, mark_answer}

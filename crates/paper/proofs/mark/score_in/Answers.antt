@@ -1,5 +1,5 @@
 -- The lines are those that are said of the file's events.
-use Rattle.std.proofs.Common.{sym, ◌∙◌, arith}
+use Rattle.std.proofs.Common.{arith}
 use Rattle.paper.proofs.Said.{score_text}
 use Rattle.paper.proofs.mark.score_in.Goals as goal
 

@@ -1,5 +1,5 @@
 -- Each turn of the loop is the next event: the bodies come in the file's order, each with its number.
-use Rattle.std.proofs.Common.{rules, ◌≡◌, ℕ, ◌+◌, ◌<◌, ◌^◌, inl, length, refl, ◌∙◌, arith}
+use Rattle.std.proofs.Common.{rules, ◌≡◌, ◌+◌, ◌<◌, ◌^◌, inl, length, refl, ◌∙◌, arith}
 use Rattle.std.proofs.lemmas.List.{length_push}
 use Rattle.question.specs.File.{event_count, bodies_from}
 use Rattle.question.proofs.Events.{length_bodies, this_body, no_body}
