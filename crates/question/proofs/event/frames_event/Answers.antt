@@ -13,4 +13,4 @@ pub returns-in_default : goal.returns-in_default
 returns-in_default c =
     let b = c.args.body.now in
     let many : 256 < length (frames_in b) = omega (arith, length_frames b, c.frame_count.ensures, c.in_default) in
-    rw c.refused.ensures (sym (many_frames c.args.p.now (frames_in b) (reading_of (drop 1 b)) many))
+    sym (many_frames c.args.p.now (frames_in b) (reading_of (drop 1 b)) many)
