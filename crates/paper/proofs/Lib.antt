@@ -2,4 +2,4 @@ pub mod Decimal
 pub mod Pieces
 pub mod Printed
 pub mod Said
-pub mod try_of
+pub mod Running

@@ -1,4 +1,5 @@
 -- The sheet and the score by what is said of the events alone, and a walk over the lines, at i. Assumes nothing.
+use Rattle.std.specs.Prelude.{Ok, Err}
 use Rattle.std.specs.Prelude.{◌≡◌, ℕ, suc, ◌+◌, ◌<◌, ◌≤◌, Bool, true, false, cond, List, [], ◌∷◌, ◌++◌, length, get_or, drop, min, Ok, Err}
 use mathlib.Core.Path.{refl, ap, ◌∙◌}
 use native.Mathlib.Numerals.{add-one}
@@ -8,7 +9,6 @@ use lib.Seq.{drop-cons}
 use mathlib.Core.Logic.{◌⊎◌, inl, inr}
 use Rattle.std.proofs.lemmas.Bool.{cases_lt}
 use Rattle.limits.specs.Refusals.{Verdict}
-use Rattle.limits.specs.declared.refusal.Verdict.TheVariants as verdict
 use Rattle.rate.specs.declared.types.RateController.{RateController}
 use Rattle.rate.specs.declared.types.Answer.{Answer}
 use Rattle.rate.specs.Calls.{Call, step}
@@ -33,8 +33,8 @@ unfolding scored line_of
 scored_line_lem m a x = go a.verdict
   where
     go : (v : Verdict) → scored_by m a x v ≡ scored_line m (line_by a v) x
-    go verdict.(Ok _) = refl
-    go (verdict.Err why) = refl
+    go (Ok _) = refl
+    go (Err why) = refl
 
 score_lines_lem : (m : Score) (k : RateController) (cs : List Call) (xs : List ℕ) → score_from m k cs xs ≡ score_lines m (said_from k cs) xs
 unfolding score_from score_lines said_from

@@ -7,7 +7,7 @@ use borrow.Author.Tests.{lt-leb}
 use lib.ListN.{length, take}
 use lib.Seq.{take_all, take_at}
 use Rattle.limits.specs.declared.refusal.Refusal.TheVariants.{TooManyFrames, OutsideLimits, TooManyBursts}
-use Rattle.std.specs.Prelude.{Ok, Err}
+use Rattle.std.specs.Prelude.{Err}
 use lib.Ieee.{Float}
 use Rattle.limits.specs.Readings.{Reading}
 use Rattle.limits.specs.Values.{ok_length, ok_burst}

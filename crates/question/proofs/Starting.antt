@@ -2,7 +2,7 @@
 use Rattle.std.specs.Prelude.{◌≡◌}
 use mathlib.Core.Path.{refl}
 use lib.Ieee.{of_bits, of_int, neg, le, div, round}
-use Rattle.std.specs.Prelude.{Ok, Err}
+use Rattle.std.specs.Prelude.{Ok}
 use Rattle.ladder.specs.Front.{beaten, front_of}
 use Rattle.ladder.specs.Tables.{table_verdict, table_of, tabled}
 use Rattle.ladder.specs.Airs.{wide_air, narrow_air}
