@@ -1,4 +1,4 @@
--- Minus a number that a u32 holds fits an i64, and is what 0 less that number is. Assumes nothing.
+-- Minus the number of a refusal fits an i64, and is what 0 less that number is. Assumes nothing.
 use mathlib.Core.Path.{◌≡◌, ap, ◌∙◌}
 use Prim.Native.Nat.{ℕ, zero, suc, ◌<◌}
 use native.Mathlib.Omega.{arith}
@@ -45,12 +45,3 @@ small AnswerCount = omega arith
 -- so what a register gives back of minus one of them is minus it
 pub known : (why : Refusal) (z : ℤ) → z ≡ minus_number why → to_z w64 (of_z w64 z) ≡ minus_number why
 known why z e = kept (refusal_number why) z (small why) e
-
--- and of 0 or minus one of them
-pub known_status : (v : Verdict) (z : ℤ) → z ≡ verdict_status v → to_z w64 (of_z w64 z) ≡ verdict_status v
-known_status (Ok _) z e = kept 0 z (omega arith) e
-known_status (Err why) z e = known why z e
-
--- a count that a u32 holds
-pub counted : (n : ℕ) → n < 4294967296 → to_z w64 n ≡ pos n
-counted n h = to_z_pos w64 n (omega arith)

@@ -4,7 +4,7 @@ ghost use Rattle.half.specs.Power.{half};
 ghost use Rattle.half.specs.Logistic.{exp, probability};
 ghost use Rattle.exports.specs.Numbers.{status_of, written_of};
 
-use half::logistic::Probability;
+use crate::status::minus_number;
 
 #[unsafe(no_mangle)]
 pub extern "C" fn rate_half(t: f64) -> f64
@@ -31,12 +31,11 @@ pub extern "C" fn rate_decode_probability(
     ensures status { result ≡ status_of (probability snr_db threshold_db slope_db) }
     ensures written { p.new ≡ written_of (probability snr_db threshold_db slope_db) p.old }
 {
-    let answer = half::logistic::decode_probability(snr_db, threshold_db, slope_db);
-    match answer {
-        Probability::Refused(why) => crate::status::minus_number(why),
-        Probability::Of(x) => {
+    match half::logistic::decode_probability(snr_db, threshold_db, slope_db) {
+        Ok(x) => {
             *p = x;
             0
         }
+        Err(why) => minus_number(why),
     }
 }

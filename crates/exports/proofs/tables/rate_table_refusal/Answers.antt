@@ -1,28 +1,35 @@
 -- The verdict of the table that is made is the columns'.
-use mathlib.Core.Path.{◌≡◌, refl, ap, ◌∙◌}
+use mathlib.Core.Path.{◌≡◌, refl, sym, ap, ◌∙◌}
 use lib.IntN.{ℤ}
-use mir.Syntax.{w64}
-use mir.Val.{to_z, of_z}
+use Rattle.std.specs.Prelude.{Result, Ok, Err, pos}
+use Rattle.limits.specs.declared.refusal.Refusal.{Refusal}
 use Rattle.limits.specs.Refusals.{Verdict}
-use Rattle.std.specs.Prelude.{Ok, Err}
-use Rattle.ladder.specs.declared.table.Tabled.{Tabled}
+use Rattle.ladder.specs.declared.types.Table.{Table}
 use Rattle.ladder.specs.Tables.{Columns, table_verdict, tabled_if, tabled}
+use Rattle.exports.specs.Status.{minus_number}
 use Rattle.exports.specs.Tables.{verdict_status}
-use Rattle.exports.proofs.Signed.{known_status}
+use Rattle.exports.proofs.Signed.{known}
 use Rattle.exports.proofs.tables.rate_table_refusal.Goals as goal
 
-of_verdict : (c : Columns) (v : Verdict) → (tabled_if v c).verdict ≡ v
+-- what C is told of a table that is made or refused
+abbrev made_status : Result Table Refusal → ℤ
+made_status (Ok t) = pos 0
+made_status (Err why) = minus_number why
+
+of_verdict : (c : Columns) (v : Verdict) → made_status (tabled_if v c) ≡ verdict_status v
 of_verdict c (Ok _) = refl
 of_verdict c (Err why) = refl
 
-verdict_of : (c : Columns) → (tabled c).verdict ≡ table_verdict c
+told : (c : Columns) (made : Result Table Refusal) → made ≡ tabled c → made_status made ≡ verdict_status (table_verdict c)
 unfolding tabled
-verdict_of c = of_verdict c (table_verdict c)
+told c made e = ap made_status e ∙ of_verdict c (table_verdict c)
 
-told : (c : Columns) (made : Tabled) (z : ℤ) → made ≡ tabled c → z ≡ verdict_status made.verdict → to_z w64 (of_z w64 z) ≡ verdict_status (table_verdict c)
-told c made z e k = known_status (table_verdict c) z (k ∙ ap (λ (m : Tabled). verdict_status m.verdict) e ∙ ap verdict_status (verdict_of c))
+pub returns-in-Ok : goal.returns-in-Ok
+returns-in-Ok c =
+    let made = rw (c.readings_of-readings.ensures, c.min.ensures) at (sym c.in-Ok.is ∙ c.table_for.ensures) in
+    told _ (Ok c.in-Ok.field-0) made
 
-pub returns : goal.returns
-returns c =
-    let made = rw (c.limited_of-limited.ensures, c.readings_of-column.ensures) at c.table_for-made.ensures in
-    told _ c.table_for-made.result c.status_of.result made c.status_of.ensures
+pub returns-in-Err : goal.returns-in-Err
+returns-in-Err c =
+    let made = rw (c.readings_of-readings.ensures, c.min.ensures) at (sym c.in-Err.is ∙ c.table_for.ensures) in
+    known c.in-Err.why c.minus_number.result c.minus_number.ensures ∙ told _ (Err c.in-Err.why) made
