@@ -1,5 +1,5 @@
 // The one run of a paper: the loop over a file's events, in place, which leaves the line of each.
-ghost use Rattle.std.specs.Prelude.{◌≡◌, [], length};
+ghost use Rattle.std.specs.Prelude.{◌≡◌, ◌≤◌, [], length};
 ghost use Rattle.account.specs.State.{unpriced};
 ghost use Rattle.rate.specs.Reads.{probing_in};
 ghost use Rattle.steps.specs.bridges.Held.{Lent, laid};
@@ -15,7 +15,7 @@ use account::state::PROBE_EVERY;
 use account::types::Trying;
 use ladder::types::{Air, Rung};
 use limits::refusal::Verdict;
-use question::file::air;
+use question::file::{air, event_count};
 use question::reader::{read_body, read_end};
 use rate::types::Probing;
 use steps::types::Moved;
@@ -95,5 +95,31 @@ pub(crate) fn run(file: &[u8], lines: &mut [Line])
         c = account::cores::same_core(next);
         last = a.faded;
         i += 1;
+    }
+}
+
+// What a function makes of the lines of a file's events, which are run in an array of N.
+fn read_in<const N: usize, R, F: FnMut(&[Line]) -> R>(file: &[u8], read: &mut F) -> R
+    requires room { event_count file.now ≤ N }
+    requires small { N ≤ 1000 }
+    requires callable { (p : _) → p.now ≡ said file.now → F.pre read.old p }
+    ensures { (p : _) × (p.now ≡ said file.now) × F.step read.old p result read.new }
+{
+    let mut room = [NO_LINE; N];
+    let lines = &mut room[..event_count(file) as usize];
+    run(file, lines);
+    read(lines)
+}
+
+// The same of an accepted file. Fewer events are run in a shorter array, which is sooner made.
+pub(crate) fn with_lines<R, F: FnMut(&[Line]) -> R>(file: &[u8], read: &mut F) -> R
+    requires few { event_count file.now ≤ 1000 }
+    requires callable { (p : _) → p.now ≡ said file.now → F.pre read.old p }
+    ensures { (p : _) × (p.now ≡ said file.now) × F.step read.old p result read.new }
+{
+    match event_count(file) {
+        0..=50 => read_in::<50, R, F>(file, read),
+        51..=250 => read_in::<250, R, F>(file, read),
+        _ => read_in::<1000, R, F>(file, read),
     }
 }

@@ -4,7 +4,7 @@ use Rattle.limits.specs.Refusals.{refusal_number}
 use Rattle.limits.specs.declared.refusal.Refusal.{Refusal}
 use Rattle.question.specs.Over.{over}
 use Rattle.question.proofs.Over.{Partly, partly_first, partly_within, partly_total, partly_last, last_room}
-use Rattle.paper.specs.Lines.{Number, Word, ended, row_of}
+use Rattle.paper.specs.Lines.{Number, Word, ended}
 use Rattle.paper.specs.Sheet.{refused_bytes}
 use Rattle.paper.proofs.Pieces.{row_two, length_refused}
 use Rattle.paper.proofs.lines.write_refused.Goals as goal

@@ -1,5 +1,4 @@
 -- `-` and a space are two bytes.
-use Rattle.std.proofs.Common.{refl}
 use Rattle.paper.specs.Lines.{ended}
 use Rattle.paper.proofs.lines.write_tried.Goals as goal
 

@@ -1,5 +1,5 @@
 -- The invariant: the score so far, with the answers that are left, is that of all.
-use Rattle.std.proofs.Common.{◌≡◌, ◌+◌, length, get_or, sym, ap, ◌∙◌, arith, rules, length-append, ◌++◌, ◌∷◌, []}
+use Rattle.std.proofs.Common.{◌≡◌, ◌+◌, length, sym, ◌∙◌, arith, rules, length-append, ◌++◌, ◌∷◌, []}
 use Rattle.std.proofs.lemmas.Slice.Zip.{zip_turn, zip_end}
 use Rattle.paper.proofs.Said.{score_next, score_end, scored_most}
 use Rattle.paper.proofs.mark.score_all.Goals as goal

@@ -1,17 +1,27 @@
 -- The file's verdict, then the room.
-use mathlib.Core.Path.{refl, sym, ◌∙◌}
+use Rattle.std.proofs.Common.{◌≤◌, length, refl, ap, sym, ◌∙◌, arith, rules}
+use Rattle.question.specs.File.{event_count}
 use Rattle.paper.specs.Sheet.{sheet_verdict, sheet_answer, sheet_left}
+use Rattle.paper.specs.bridges.Said.{said}
 use Rattle.question.proofs.Events.{few_events}
+use Rattle.paper.proofs.Said.{said_length}
 use Rattle.paper.proofs.sheet.sheet.Goals as goal
 
-pub run_sheet-requires : goal.run_sheet-requires
-run_sheet-requires c = few_events _ (sym c.file_verdict.ensures ∙ c.in-Accepted.is)
+pub with_lines-requires : goal.with_lines-requires
+with_lines-requires c =
+    let few : event_count c.args.question.now ≤ 1000 = few_events _ (sym c.file_verdict.ensures ∙ c.in-Accepted.is) in
+    let size : length (said c.args.question.now) ≤ 1000 = omega (arith, said_length c.args.question.now) in
+    record { few = few; callable = λ p e. let all : length p.now ≤ 1000 = omega (arith, ap length e) in search rules }
 
-pub returns-in-Accepted : goal.returns-in-Accepted
-unfolding sheet_verdict sheet_answer sheet_left
-returns-in-Accepted c =
-    let s = c.run_sheet.ensures in
-    rw (← c.file_verdict.ensures, c.in-Accepted.is) (record { value = s.value; out_after = s.out_after; within = s.within })
+pub returns-in-Accepted-clause-value : goal.returns-in-Accepted-clause-value
+unfolding sheet_verdict sheet_answer
+returns-in-Accepted-clause-value c =
+    rw (← c.file_verdict.ensures, c.in-Accepted.is) (search rules)
+
+pub returns-in-Accepted-clause-out_after : goal.returns-in-Accepted-clause-out_after
+unfolding sheet_verdict sheet_left
+returns-in-Accepted-clause-out_after c =
+    rw (← c.file_verdict.ensures, c.in-Accepted.is) (search rules)
 
 pub returns-in-Refused : goal.returns-in-Refused
 unfolding sheet_verdict sheet_answer sheet_left

@@ -1,6 +1,6 @@
 -- The invariant: the lines below the i-th stand over the start of the slice, and the others, which have room, are left.
 use Rattle.std.proofs.Common.{◌+◌, ◌≤◌, length, arith}
-use Rattle.question.proofs.Over.{partly_start, partly_within, partly_next, partly_end, piece_fits, piece_room}
+use Rattle.question.proofs.Over.{partly_start, partly_next, partly_end, piece_fits, piece_room}
 use Rattle.paper.proofs.Said.{text_next, text_end}
 use Rattle.paper.proofs.sheet.write_lines.Goals as goal
 

@@ -1,5 +1,5 @@
 -- A number below ten has one digit, else one more than its tenth; a u32 has ten at most.
-use Rattle.std.proofs.Common.{length, sym, ap, ◌∙◌, arith}
+use Rattle.std.proofs.Common.{length, sym, ap, arith}
 use Rattle.paper.proofs.Decimal.{decimal_one, length_more, decimal_short}
 use Rattle.paper.proofs.text.+digits_of.Goals as goal
 

@@ -1,5 +1,5 @@
 -- `itoa` ends the digits where their count says, and so begins them at the start.
-use Rattle.std.proofs.Common.{◌≡◌, length, drop, refl, ap, arith}
+use Rattle.std.proofs.Common.{◌≡◌, length, ap, arith}
 use Rattle.std.specs.Fmt as text
 use Rattle.question.specs.Over.{over}
 use Rattle.paper.specs.Lines.{decimal}
