@@ -35,29 +35,20 @@ fn line_of(t: Air, reals: &[f64], wholes: &[u32], m: Moved) -> Line
     requires { Lent reals.now wholes.now }
     ensures { result ≡ line_of (answer_of (laid t reals.now wholes.now) unpriced [] [] [] m) }
 {
-    let verdict = m.verdict;
-    match verdict {
-        Verdict::Accepted => {
-            let c = m.core;
-            let place = c.place;
-            let trying = c.trying;
-            let choice = steps::read::rung_in(wholes, place);
-            let tried = tried_of(trying);
-            let ofdm_refused = steps::echo::refuses_ofdm(t, reals, wholes, c);
-            Ok(Outcome {
-                choice,
-                tried,
-                ofdm_refused,
-                ended: m.ended,
-                begun: m.begun,
-            })
-        }
+    match m.verdict {
+        Verdict::Accepted => Ok(Outcome {
+            choice: steps::read::rung_in(wholes, m.core.place),
+            tried: tried_of(m.core.trying),
+            ofdm_refused: steps::echo::refuses_ofdm(t, reals, wholes, m.core),
+            ended: m.ended,
+            begun: m.begun,
+        }),
         Verdict::Refused(why) => Err(why),
     }
 }
 
 // What stands in a line's place before the run: all its bytes are 0, so that an array of it is sooner made.
-pub(crate) const NO_LINE: Line = Ok(Outcome {
+const NO_LINE: Line = Ok(Outcome {
     choice: Rung(0),
     tried: Probing::Nothing,
     ofdm_refused: false,
@@ -65,8 +56,8 @@ pub(crate) const NO_LINE: Line = Ok(Outcome {
     begun: false,
 });
 
-// The lines of a file's events, one for each place of the slice.
-pub(crate) fn run(file: &[u8], lines: &mut [Line])
+// The lines of a file's events, one for each place of the slice. The document gives a reader a next body and an end test only, so the loop counts.
+fn run(file: &[u8], lines: &mut [Line])
     requires { length lines.old ≡ event_count file.now }
     ensures { lines.new ≡ said file.now }
 {
@@ -98,7 +89,8 @@ pub(crate) fn run(file: &[u8], lines: &mut [Line])
     }
 }
 
-// What a function makes of the lines of a file's events, which are run in an array of N.
+// What a function makes of the lines of a file's events, which are run in an array of N. It is lent by `&mut`: an `FnOnce` would not tell what it left
+// behind a slice that it captured.
 fn read_in<const N: usize, R, F: FnMut(&[Line]) -> R>(file: &[u8], read: &mut F) -> R
     requires room { event_count file.now ≤ N }
     requires small { N ≤ 1000 }

@@ -16,11 +16,11 @@ fn measure_lines(lines: &[Line]) -> usize
     requires { length lines.now ≤ 1000 }
     ensures { result ≡ length (text_from 1 lines.now) }
 {
-    let mut len = 0;
-    for (i, line) in lines.iter().enumerate() {
-        len += line_length(i as u32 + 1, *line);
-    }
-    len
+    lines
+        .iter()
+        .enumerate()
+        .map(|(i, line)| line_length(i as u32 + 1, *line))
+        .sum()
 }
 
 // The lines at the start of the slice, in which they have room: each goes after the bytes already written. Returns how many bytes they took.

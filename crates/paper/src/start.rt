@@ -6,7 +6,7 @@ use ladder::airs::{narrow_table, wide_table};
 use ladder::table::for_air;
 use ladder::types::Table;
 
-// The table of an air by its number: 1 wide, else narrow.
+// The table of an air by its number: 1 wide, else narrow. (An enum of the two would be made here and read here alone.)
 pub(crate) fn table_of(air: u32) -> Table
     ensures { result ≡ (fresh_for air).table }
 {
