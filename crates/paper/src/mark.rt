@@ -1,6 +1,5 @@
 // Marking: one answer byte an event, held against the choice in that event's line.
 ghost use Rattle.std.specs.Prelude.{◌≡◌, ◌<◌, ◌≤◌, ◌^◌, length};
-ghost use Rattle.question.specs.File.{event_count};
 ghost use Rattle.paper.specs.Sheet.{score_of, mark_answer};
 ghost use Rattle.paper.specs.bridges.Said.{scored_line, score_lines};
 

@@ -1,6 +1,5 @@
 // The sheet of a question file: its events are run once, and what is said of them is printed. How long the lines are is known before a byte is written.
 ghost use Rattle.std.specs.Prelude.{◌≡◌, ◌≤◌, length, IfOk};
-ghost use Rattle.question.specs.File.{event_count};
 ghost use Rattle.question.specs.Over.{over};
 ghost use Rattle.paper.specs.Sheet.{room_verdict, sheet_by, sheet_answer, left_by, sheet_left, refused_bytes, fitting, printed_in};
 ghost use Rattle.paper.specs.bridges.Said.{said, text_from};
