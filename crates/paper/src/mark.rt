@@ -1,10 +1,9 @@
 // Marking: one answer byte an event, held against the choice in that event's line.
 ghost use Rattle.std.specs.Prelude.{◌≡◌, ◌<◌, ◌≤◌, ◌^◌, length};
-ghost use Rattle.question.specs.File.{event_count};
 ghost use Rattle.paper.specs.Sheet.{score_of, mark_answer};
 ghost use Rattle.paper.specs.bridges.Said.{scored_line, score_lines};
 
-use crate::run::{NO_LINE, run};
+use crate::run::with_lines;
 use crate::types::{Line, Score};
 use limits::refusal::Refusal;
 use question::file::event_count;
@@ -42,30 +41,6 @@ fn score_all(lines: &[Line], answers: &[u8]) -> Score
     m
 }
 
-// The score of a file of at most N events.
-fn score_in<const N: usize>(file: &[u8], answers: &[u8]) -> Score
-    requires room { event_count file.now ≤ N }
-    requires small { N ≤ 1000 }
-    ensures { result ≡ score_of file.now answers.now }
-{
-    let mut room = [NO_LINE; N];
-    let lines = &mut room[..event_count(file) as usize];
-    run(file, lines);
-    score_all(lines, answers)
-}
-
-// The score of an accepted file. Fewer events are run in a shorter array, which is sooner made.
-fn run_score(file: &[u8], answers: &[u8]) -> Score
-    requires { event_count file.now ≤ 1000 }
-    ensures { result ≡ score_of file.now answers.now }
-{
-    match event_count(file) {
-        0..=50 => score_in::<50>(file, answers),
-        51..=250 => score_in::<250>(file, answers),
-        _ => score_in::<1000>(file, answers),
-    }
-}
-
 // How many answers are right, and how many count. Refused: 10, 11, 12, 14.
 pub fn mark(question: &[u8], answers: &[u8]) -> Result<Score, Refusal>
     ensures { result ≡ mark_answer question.now answers.now }
@@ -74,5 +49,5 @@ pub fn mark(question: &[u8], answers: &[u8]) -> Result<Score, Refusal>
     if answers.len() != event_count(question) as usize {
         return Err(Refusal::AnswerCount);
     }
-    Ok(run_score(question, answers))
+    Ok(with_lines(question, &mut |lines| score_all(lines, answers)))
 }

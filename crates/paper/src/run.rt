@@ -1,5 +1,5 @@
 // The one run of a paper: the loop over a file's events, in place on one player, which leaves the line of each.
-ghost use Rattle.std.specs.Prelude.{◌≡◌, length};
+ghost use Rattle.std.specs.Prelude.{◌≡◌, ◌≤◌, length};
 ghost use Rattle.rate.specs.bridges.Replies.{answer_of};
 ghost use Rattle.question.specs.File.{event_count};
 ghost use Rattle.paper.specs.Sheet.{ofdm_refused, line_of};
@@ -8,7 +8,7 @@ ghost use Rattle.paper.specs.bridges.Said.{said};
 use crate::types::{Line, Outcome};
 use ladder::types::Rung;
 use question::event::play;
-use question::file::air;
+use question::file::{air, event_count};
 use question::reader::Reader;
 use question::start::fresh_for;
 use rate::player::Player;
@@ -37,7 +37,7 @@ fn line_of(k: &RateController, reply: Reply) -> Line
 }
 
 // What stands in a line's place before the run: all its bytes are 0, so that an array of it is sooner made.
-pub(crate) const NO_LINE: Line = Ok(Outcome {
+const NO_LINE: Line = Ok(Outcome {
     choice: Rung(0),
     tried: None,
     ofdm_refused: false,
@@ -46,7 +46,7 @@ pub(crate) const NO_LINE: Line = Ok(Outcome {
 });
 
 // The lines of a file's events, one for each place of the slice.
-pub(crate) fn run(file: &[u8], lines: &mut [Line])
+fn run(file: &[u8], lines: &mut [Line])
     requires { length lines.old ≡ event_count file.now }
     ensures { lines.new ≡ said file.now }
 {
@@ -54,5 +54,32 @@ pub(crate) fn run(file: &[u8], lines: &mut [Line])
     for (i, body) in Reader::new(file).enumerate() {
         let reply = play(&mut player, body);
         lines[i] = line_of(player.controller(), reply);
+    }
+}
+
+// What a function makes of the lines of a file's events, which are run in an array of N. It is lent by `&mut`: an `FnOnce` would not tell what it left
+// behind a slice that it captured.
+fn read_in<const N: usize, R, F: FnMut(&[Line]) -> R>(file: &[u8], read: &mut F) -> R
+    requires room { event_count file.now ≤ N }
+    requires small { N ≤ 1000 }
+    requires callable { (p : _) → p.now ≡ said file.now → F.pre read.old p }
+    ensures { (p : _) × (p.now ≡ said file.now) × F.step read.old p result read.new }
+{
+    let mut room = [NO_LINE; N];
+    let lines = &mut room[..event_count(file) as usize];
+    run(file, lines);
+    read(lines)
+}
+
+// The same of an accepted file. Fewer events are run in a shorter array, which is sooner made.
+pub(crate) fn with_lines<R, F: FnMut(&[Line]) -> R>(file: &[u8], read: &mut F) -> R
+    requires few { event_count file.now ≤ 1000 }
+    requires callable { (p : _) → p.now ≡ said file.now → F.pre read.old p }
+    ensures { (p : _) × (p.now ≡ said file.now) × F.step read.old p result read.new }
+{
+    match event_count(file) {
+        0..=50 => read_in::<50, R, F>(file, read),
+        51..=250 => read_in::<250, R, F>(file, read),
+        _ => read_in::<1000, R, F>(file, read),
     }
 }

@@ -1,15 +1,13 @@
 // The sheet of a question file: its events are run once, and what is said of them is printed. How long the lines are is known before a byte is written.
 ghost use Rattle.std.specs.Prelude.{◌≡◌, ◌≤◌, length, IfOk};
-ghost use Rattle.question.specs.File.{event_count};
 ghost use Rattle.question.specs.Over.{over};
 ghost use Rattle.paper.specs.Sheet.{room_verdict, sheet_by, sheet_answer, left_by, sheet_left, refused_bytes, fitting, printed_in};
-ghost use Rattle.paper.specs.bridges.Said.{text_from};
+ghost use Rattle.paper.specs.bridges.Said.{said, text_from};
 
 use crate::lines::{line_length, refused_length, write_line, write_refused};
-use crate::run::{NO_LINE, run};
+use crate::run::with_lines;
 use crate::types::Line;
 use limits::refusal::Refusal;
-use question::file::event_count;
 use question::verdict::file_verdict;
 
 // How long the lines are.
@@ -17,11 +15,11 @@ fn measure_lines(lines: &[Line]) -> usize
     requires { length lines.now ≤ 1000 }
     ensures { result ≡ length (text_from 1 lines.now) }
 {
-    let mut len = 0;
-    for (i, line) in lines.iter().enumerate() {
-        len += line_length(i as u32 + 1, *line);
-    }
-    len
+    lines
+        .iter()
+        .enumerate()
+        .map(|(i, line)| line_length(i as u32 + 1, *line))
+        .sum()
 }
 
 // The lines at the start of the slice, in which they have room: each goes after the bytes already written. Returns how many bytes they took.
@@ -38,35 +36,18 @@ fn write_lines(lines: &[Line], out: &mut [u8]) -> usize
     len
 }
 
-// The sheet of a file of at most N events, if it has room.
-fn sheet_in<const N: usize>(file: &[u8], out: &mut [u8]) -> Result<usize, Refusal>
-    requires room { event_count file.now ≤ N }
-    requires small { N ≤ 1000 }
+// The sheet of a file whose lines these are, if it has room.
+fn fit_sheet(file: &[u8], lines: &[Line], out: &mut [u8]) -> Result<usize, Refusal>
+    requires lines_value { lines.now ≡ said file.now }
+    requires few { length lines.now ≤ 1000 }
     ensures value { result ≡ sheet_by file.now (room_verdict file.now out.old) }
     ensures out_after { out.new ≡ left_by file.now out.old (room_verdict file.now out.old) }
     ensures within { IfOk result (λ len. len ≤ length out.old) }
 {
-    let mut room = [NO_LINE; N];
-    let lines = &mut room[..event_count(file) as usize];
-    run(file, lines);
     if measure_lines(lines) > out.len() {
         return Err(Refusal::SheetRoom);
     }
     Ok(write_lines(lines, out))
-}
-
-// The sheet of an accepted file. Fewer events are run in a shorter array, which is sooner made.
-fn run_sheet(file: &[u8], out: &mut [u8]) -> Result<usize, Refusal>
-    requires { event_count file.now ≤ 1000 }
-    ensures value { result ≡ sheet_by file.now (room_verdict file.now out.old) }
-    ensures out_after { out.new ≡ left_by file.now out.old (room_verdict file.now out.old) }
-    ensures within { IfOk result (λ len. len ≤ length out.old) }
-{
-    match event_count(file) {
-        0..=50 => sheet_in::<50>(file, out),
-        51..=250 => sheet_in::<250>(file, out),
-        _ => sheet_in::<1000>(file, out),
-    }
 }
 
 // The sheet of a question file, at the start of the slice. Refused: 10, 11, 12, 13, and the slice is left as it was.
@@ -76,7 +57,7 @@ pub fn sheet(question: &[u8], out: &mut [u8]) -> Result<usize, Refusal>
     ensures within { IfOk result (λ len. len ≤ length out.old) }
 {
     file_verdict(question)?;
-    run_sheet(question, out)
+    with_lines(question, &mut |lines| fit_sheet(question, lines, out))
 }
 
 // The line of a refused file, if it has room.

@@ -4,7 +4,7 @@ ghost use Rattle.std.specs.Prelude.{◌≡◌, ◌≤◌, length};
 ghost use Rattle.question.specs.Over.{over};
 ghost use Rattle.paper.specs.Lines.{Number, decimal, ended};
 
-// How many digits a number has.
+// How many digits a number has. `checked_ilog10` proves as well, but the numbers of a sheet are short, and it makes one of echo and silence 2 % slower.
 pub(crate) fn digits_of(n: u32) -> usize
     ensures { (result ≡ length (decimal n)) × (result ≤ 10) }
 {

@@ -11,17 +11,17 @@ use Rattle.paper.proofs.lines.write_answered.Goals as goal
 
 module _ (event : ℕ) (o : Outcome) (out : List ℕ) (fits : length (line_bytes event (Ok o)) ≤ length out) where
   -- the slice after the event
-  module _ (k : ℕ) (new : List ℕ) (wrote : k ≡ length (ended (Number event) 32)) (left : new ≡ over (ended (Number event) 32) out) where
+  module _ {k : ℕ} {new : List ℕ} (wrote : k ≡ length (ended (Number event) 32)) (left : new ≡ over (ended (Number event) 32) out) where
     one : Partly (line_bytes event (Ok o)) (row_of (Number o.choice.0 ∷ tried_cell o.tried ∷ flag_cells o)) out k new
     one = partly_first (choice_next event o) out new k (omega (arith, fits, next_length (choice_next event o))) wrote left
 
     -- after the choice
-    module _ (r : ℕ) (part : List ℕ) (more : r ≡ length (ended (Number o.choice.0) 32)) (then : part ≡ over (ended (Number o.choice.0) 32) (take (length new - k) (drop k new))) where
+    module _ {r : ℕ} {part : List ℕ} (more : r ≡ length (ended (Number o.choice.0) 32)) (then : part ≡ over (ended (Number o.choice.0) 32) (take (length new - k) (drop k new))) where
       two : Partly (line_bytes event (Ok o)) (row_of (tried_cell o.tried ∷ flag_cells o)) out (k + r) (put_mid k (length new - k) new part)
       two = partly_next one (tried_next event o) (piece_fits one fits (tried_next event o)) part r more then
 
       -- after the tried rung
-      module _ (s : ℕ) (last : List ℕ) (still : s ≡ length (ended (tried_cell o.tried) 32)) (now : last ≡ over (ended (tried_cell o.tried) 32) (take (length (put_mid k (length new - k) new part) - (k + r)) (drop (k + r) (put_mid k (length new - k) new part)))) where
+      module _ {s : ℕ} {last : List ℕ} (still : s ≡ length (ended (tried_cell o.tried) 32)) (now : last ≡ over (ended (tried_cell o.tried) 32) (take (length (put_mid k (length new - k) new part) - (k + r)) (drop (k + r) (put_mid k (length new - k) new part)))) where
         three : Partly (line_bytes event (Ok o)) (row_of (flag_cells o)) out (k + r + s) (put_mid (k + r) (length (put_mid k (length new - k) new part) - (k + r)) (put_mid k (length new - k) new part) last)
         three = partly_next two (flags_next event o) (piece_fits two fits (flags_next event o)) last s still now
 
@@ -32,53 +32,95 @@ write_field-len-requires c =
 
 pub slice_bounds-write_field-count : goal.slice_bounds-write_field-count
 slice_bounds-write_field-count c =
-    (partly_within (one c.args.event c.args.o c.args.out.now c.requires c.write_field-len.result c.write_field-len.new.out c.write_field-len.ensures.value c.write_field-len.ensures.out_after)).0
+    let a = c.args in
+    let event = c.write_field-len.ensures in
+    (partly_within (one a.event a.o a.out.now c.requires event.value event.out_after)).0
 
 pub slice_bounds-write_field-start : goal.slice_bounds-write_field-start
 slice_bounds-write_field-start c =
-    (partly_within (one c.args.event c.args.o c.args.out.now c.requires c.write_field-len.result c.write_field-len.new.out c.write_field-len.ensures.value c.write_field-len.ensures.out_after)).0
+    let a = c.args in
+    let event = c.write_field-len.ensures in
+    (partly_within (one a.event a.o a.out.now c.requires event.value event.out_after)).0
 
 pub write_field-len-requires-2 : goal.write_field-len-requires-2
 write_field-len-requires-2 c =
-    piece_room (one c.args.event c.args.o c.args.out.now c.requires c.write_field-len.result c.write_field-len.new.out c.write_field-len.ensures.value c.write_field-len.ensures.out_after) c.requires (tried_next c.args.event c.args.o)
+    let a = c.args in
+    let event = c.write_field-len.ensures in
+    piece_room (one a.event a.o a.out.now c.requires event.value event.out_after) c.requires (tried_next a.event a.o)
 
 pub overflow_add-len : goal.overflow_add-len
 overflow_add-len c =
-    omega (arith, piece_fits (one c.args.event c.args.o c.args.out.now c.requires c.write_field-len.result c.write_field-len.new.out c.write_field-len.ensures.value c.write_field-len.ensures.out_after) c.requires (tried_next c.args.event c.args.o), c.write_field-len-2.ensures.value, c.well_formed)
+    let a = c.args in
+    let event = c.write_field-len.ensures in
+    let choice = c.write_field-len-2.ensures in
+    omega (arith, piece_fits (one a.event a.o a.out.now c.requires event.value event.out_after) c.requires (tried_next a.event a.o), choice.value, c.well_formed)
 
 pub slice_bounds-write_tried-count : goal.slice_bounds-write_tried-count
 slice_bounds-write_tried-count c =
-    (partly_within (two c.args.event c.args.o c.args.out.now c.requires c.write_field-len.result c.write_field-len.new.out c.write_field-len.ensures.value c.write_field-len.ensures.out_after c.write_field-len-2.result c.write_field-len-2.new.out c.write_field-len-2.ensures.value c.write_field-len-2.ensures.out_after)).0
+    let a = c.args in
+    let event = c.write_field-len.ensures in
+    let choice = c.write_field-len-2.ensures in
+    (partly_within (two a.event a.o a.out.now c.requires event.value event.out_after choice.value choice.out_after)).0
 
 pub slice_bounds-write_tried-start : goal.slice_bounds-write_tried-start
 slice_bounds-write_tried-start c =
-    (partly_within (two c.args.event c.args.o c.args.out.now c.requires c.write_field-len.result c.write_field-len.new.out c.write_field-len.ensures.value c.write_field-len.ensures.out_after c.write_field-len-2.result c.write_field-len-2.new.out c.write_field-len-2.ensures.value c.write_field-len-2.ensures.out_after)).0
+    let a = c.args in
+    let event = c.write_field-len.ensures in
+    let choice = c.write_field-len-2.ensures in
+    (partly_within (two a.event a.o a.out.now c.requires event.value event.out_after choice.value choice.out_after)).0
 
 pub write_tried-len-requires : goal.write_tried-len-requires
 write_tried-len-requires c =
-    piece_room (two c.args.event c.args.o c.args.out.now c.requires c.write_field-len.result c.write_field-len.new.out c.write_field-len.ensures.value c.write_field-len.ensures.out_after c.write_field-len-2.result c.write_field-len-2.new.out c.write_field-len-2.ensures.value c.write_field-len-2.ensures.out_after) c.requires (flags_next c.args.event c.args.o)
+    let a = c.args in
+    let event = c.write_field-len.ensures in
+    let choice = c.write_field-len-2.ensures in
+    piece_room (two a.event a.o a.out.now c.requires event.value event.out_after choice.value choice.out_after) c.requires (flags_next a.event a.o)
 
 pub overflow_add-len-2 : goal.overflow_add-len-2
 overflow_add-len-2 c =
-    omega (arith, piece_fits (two c.args.event c.args.o c.args.out.now c.requires c.write_field-len.result c.write_field-len.new.out c.write_field-len.ensures.value c.write_field-len.ensures.out_after c.write_field-len-2.result c.write_field-len-2.new.out c.write_field-len-2.ensures.value c.write_field-len-2.ensures.out_after) c.requires (flags_next c.args.event c.args.o), c.write_tried-len.ensures.value, c.well_formed)
+    let a = c.args in
+    let event = c.write_field-len.ensures in
+    let choice = c.write_field-len-2.ensures in
+    let tried = c.write_tried-len.ensures in
+    omega (arith, piece_fits (two a.event a.o a.out.now c.requires event.value event.out_after choice.value choice.out_after) c.requires (flags_next a.event a.o), tried.value, c.well_formed)
 
 pub slice_bounds-write_flags-count : goal.slice_bounds-write_flags-count
 slice_bounds-write_flags-count c =
-    (partly_within (three c.args.event c.args.o c.args.out.now c.requires c.write_field-len.result c.write_field-len.new.out c.write_field-len.ensures.value c.write_field-len.ensures.out_after c.write_field-len-2.result c.write_field-len-2.new.out c.write_field-len-2.ensures.value c.write_field-len-2.ensures.out_after c.write_tried-len.result c.write_tried-len.new.out c.write_tried-len.ensures.value c.write_tried-len.ensures.out_after)).0
+    let a = c.args in
+    let event = c.write_field-len.ensures in
+    let choice = c.write_field-len-2.ensures in
+    let tried = c.write_tried-len.ensures in
+    (partly_within (three a.event a.o a.out.now c.requires event.value event.out_after choice.value choice.out_after tried.value tried.out_after)).0
 
 pub slice_bounds-write_flags-start : goal.slice_bounds-write_flags-start
 slice_bounds-write_flags-start c =
-    (partly_within (three c.args.event c.args.o c.args.out.now c.requires c.write_field-len.result c.write_field-len.new.out c.write_field-len.ensures.value c.write_field-len.ensures.out_after c.write_field-len-2.result c.write_field-len-2.new.out c.write_field-len-2.ensures.value c.write_field-len-2.ensures.out_after c.write_tried-len.result c.write_tried-len.new.out c.write_tried-len.ensures.value c.write_tried-len.ensures.out_after)).0
+    let a = c.args in
+    let event = c.write_field-len.ensures in
+    let choice = c.write_field-len-2.ensures in
+    let tried = c.write_tried-len.ensures in
+    (partly_within (three a.event a.o a.out.now c.requires event.value event.out_after choice.value choice.out_after tried.value tried.out_after)).0
 
 pub write_flags-requires : goal.write_flags-requires
 write_flags-requires c =
-    last_room (three c.args.event c.args.o c.args.out.now c.requires c.write_field-len.result c.write_field-len.new.out c.write_field-len.ensures.value c.write_field-len.ensures.out_after c.write_field-len-2.result c.write_field-len-2.new.out c.write_field-len-2.ensures.value c.write_field-len-2.ensures.out_after c.write_tried-len.result c.write_tried-len.new.out c.write_tried-len.ensures.value c.write_tried-len.ensures.out_after) c.requires
+    let a = c.args in
+    let event = c.write_field-len.ensures in
+    let choice = c.write_field-len-2.ensures in
+    let tried = c.write_tried-len.ensures in
+    last_room (three a.event a.o a.out.now c.requires event.value event.out_after choice.value choice.out_after tried.value tried.out_after) c.requires
 
 pub overflow_add-result : goal.overflow_add-result
 overflow_add-result c =
-    omega (arith, partly_total (three c.args.event c.args.o c.args.out.now c.requires c.write_field-len.result c.write_field-len.new.out c.write_field-len.ensures.value c.write_field-len.ensures.out_after c.write_field-len-2.result c.write_field-len-2.new.out c.write_field-len-2.ensures.value c.write_field-len-2.ensures.out_after c.write_tried-len.result c.write_tried-len.new.out c.write_tried-len.ensures.value c.write_tried-len.ensures.out_after) c.requires, c.write_flags.ensures.value, c.requires, c.well_formed)
+    let a = c.args in
+    let event = c.write_field-len.ensures in
+    let choice = c.write_field-len-2.ensures in
+    let tried = c.write_tried-len.ensures in
+    omega (arith, partly_total (three a.event a.o a.out.now c.requires event.value event.out_after choice.value choice.out_after tried.value tried.out_after) c.requires, c.write_flags.ensures.value, c.requires, c.well_formed)
 
 pub returns : goal.returns
 returns c =
-    let r = partly_last (three c.args.event c.args.o c.args.out.now c.requires c.write_field-len.result c.write_field-len.new.out c.write_field-len.ensures.value c.write_field-len.ensures.out_after c.write_field-len-2.result c.write_field-len-2.new.out c.write_field-len-2.ensures.value c.write_field-len-2.ensures.out_after c.write_tried-len.result c.write_tried-len.new.out c.write_tried-len.ensures.value c.write_tried-len.ensures.out_after) _ _ c.requires c.write_flags.ensures.value c.write_flags.ensures.out_after in
+    let a = c.args in
+    let event = c.write_field-len.ensures in
+    let choice = c.write_field-len-2.ensures in
+    let tried = c.write_tried-len.ensures in
+    let r = partly_last (three a.event a.o a.out.now c.requires event.value event.out_after choice.value choice.out_after tried.value tried.out_after) _ _ c.requires c.write_flags.ensures.value c.write_flags.ensures.out_after in
     record { value = r.0; out_after = r.1 }

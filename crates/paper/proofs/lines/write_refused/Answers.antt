@@ -10,7 +10,7 @@ use Rattle.paper.proofs.Pieces.{row_two, length_refused}
 use Rattle.paper.proofs.lines.write_refused.Goals as goal
 
 -- the slice after the word
-module _ (why : Refusal) (out : List ℕ) (fits : length (refused_bytes why) ≤ length out) (k : ℕ) (new : List ℕ) (wrote : k ≡ length (ended Word 32)) (left : new ≡ over (ended Word 32) out) where
+module _ (why : Refusal) (out : List ℕ) (fits : length (refused_bytes why) ≤ length out) {k : ℕ} {new : List ℕ} (wrote : k ≡ length (ended Word 32)) (left : new ≡ over (ended Word 32) out) where
   word : Partly (refused_bytes why) (ended (Number (refusal_number why)) 10) out k new
   unfolding ended refused_bytes
   word = partly_first (row_two Word (Number (refusal_number why))) out new k (omega (arith, fits, length_refused why)) wrote left
@@ -22,25 +22,25 @@ write_bytes-k-requires c =
 pub slice_bounds-write_field-count : goal.slice_bounds-write_field-count
 unfolding ended
 slice_bounds-write_field-count c =
-    (partly_within (word c.args.why c.args.out.now c.requires c.write_bytes-k.result c.write_bytes-k.new.out c.write_bytes-k.ensures.value c.write_bytes-k.ensures.out_after)).0
+    (partly_within (word c.args.why c.args.out.now c.requires c.write_bytes-k.ensures.value c.write_bytes-k.ensures.out_after)).0
 
 pub slice_bounds-write_field-start : goal.slice_bounds-write_field-start
 unfolding ended
 slice_bounds-write_field-start c =
-    (partly_within (word c.args.why c.args.out.now c.requires c.write_bytes-k.result c.write_bytes-k.new.out c.write_bytes-k.ensures.value c.write_bytes-k.ensures.out_after)).0
+    (partly_within (word c.args.why c.args.out.now c.requires c.write_bytes-k.ensures.value c.write_bytes-k.ensures.out_after)).0
 
 pub write_field-requires : goal.write_field-requires
 unfolding ended
 write_field-requires c =
-    rw c.number.ensures (last_room (word c.args.why c.args.out.now c.requires c.write_bytes-k.result c.write_bytes-k.new.out c.write_bytes-k.ensures.value c.write_bytes-k.ensures.out_after) c.requires)
+    rw c.number.ensures (last_room (word c.args.why c.args.out.now c.requires c.write_bytes-k.ensures.value c.write_bytes-k.ensures.out_after) c.requires)
 
 pub overflow_add-result : goal.overflow_add-result
 unfolding ended
 overflow_add-result c =
-    omega (arith, partly_total (word c.args.why c.args.out.now c.requires c.write_bytes-k.result c.write_bytes-k.new.out c.write_bytes-k.ensures.value c.write_bytes-k.ensures.out_after) c.requires, rw c.number.ensures at c.write_field.ensures.value, c.requires, c.well_formed)
+    omega (arith, partly_total (word c.args.why c.args.out.now c.requires c.write_bytes-k.ensures.value c.write_bytes-k.ensures.out_after) c.requires, rw c.number.ensures at c.write_field.ensures.value, c.requires, c.well_formed)
 
 pub returns : goal.returns
 unfolding ended
 returns c =
-    let r = partly_last (word c.args.why c.args.out.now c.requires c.write_bytes-k.result c.write_bytes-k.new.out c.write_bytes-k.ensures.value c.write_bytes-k.ensures.out_after) _ _ c.requires (rw c.number.ensures at c.write_field.ensures.value) (rw c.number.ensures at c.write_field.ensures.out_after) in
+    let r = partly_last (word c.args.why c.args.out.now c.requires c.write_bytes-k.ensures.value c.write_bytes-k.ensures.out_after) _ _ c.requires (rw c.number.ensures at c.write_field.ensures.value) (rw c.number.ensures at c.write_field.ensures.out_after) in
     record { value = r.0; out_after = r.1 }
