@@ -43,4 +43,4 @@ events_of file = (event_sums (event_count file) 0 file (fresh_for (air file)) no
 abbrev pub frames_of_first : List ℕ → ℕ
 frames_of_first file =
     let body = body_at file 0 in
-    (frame_sums 256 0 (batch_of (frames_in body)).frames (reading_of (drop 1 body)) (fresh_for (air file)) none).placed
+    (frame_sums 256 0 (batch_of (frames_in body)).entries (reading_of (drop 1 body)) (fresh_for (air file)) none).placed

@@ -77,7 +77,7 @@ pub extern "C" fn by_value_frames(file: &[u8]) -> u32
     let body = body_at(file, 0);
     let snr = reading_of(past(body, 1));
     let batch = frames_of(body);
-    let frames = batch.frames;
+    let frames = batch.entries;
     let mut k = fresh_for(air(file));
     let mut sums = none();
     for i in 0..256 {

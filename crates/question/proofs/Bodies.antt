@@ -2,7 +2,7 @@
 use mathlib.Core.Path.{◌≡◌, sym, ap, ◌∙◌}
 use mathlib.Core.Bool.{Bool}
 use mathlib.Core.List.{List}
-use Prim.Native.Nat.{ℕ, ◌+◌, ◌*◌, ◌<◌, ◌≤◌, min}
+use Prim.Native.Nat.{ℕ, ◌+◌, ◌*◌, ◌<◌, ◌≤◌}
 use native.Mathlib.Nat.{zero-add}
 use native.Mathlib.Omega.{arith}
 use lib.Dec.{ltb, leb}
@@ -13,8 +13,7 @@ use Rattle.ladder.specs.Lists.{every, tabulate}
 use Rattle.limits.specs.Values.{ok_burst}
 use Rattle.rules.specs.declared.types.Frame.{Frame}
 use Rattle.question.specs.Bytes.{byte, le16}
-use Rattle.question.specs.Body.{all_from, frame_count, frame_bytes, ok_flags, frame_of, frame_at, frames_in, burst_count, burst_at, bursts_in, no_frame, no_frames, no_bursts, batch_of, bursts_of}
-use Rattle.question.proofs.Over.{over_filled}
+use Rattle.question.specs.Body.{all_from, frame_count, frame_bytes, ok_flags, frame_of, frame_at, frames_in, burst_count, burst_at, bursts_in}
 use Rattle.question.proofs.Chunks.{chunk}
 use Rattle.question.proofs.Ranges.{length_tabulate, tabulate_at, every_tabulate, all_tabulate, all_same}
 
@@ -40,13 +39,6 @@ frame_at_lem b i d h = tabulate_at (frame_count b) 0 i (frame_at b) d h ∙ rw z
 pub frame_past : (b : List ℕ) (i : ℕ) (d : Frame) → frame_count b ≤ i → get_or (frames_in b) i d ≡ d
 frame_past b i d h = get_or_past (frames_in b) i d (omega (arith, length_frames b))
 
-pub batch_is : (b : List ℕ) (frames : List Frame) (count : ℕ) → length frames ≡ 256 → ((i : ℕ) → i < 256 → get_or frames i no_frame ≡ get_or (frames_in b) i no_frame) → count ≡ min (frame_count b) 257
-    → record { frames = frames; count = count } ≡ batch_of (frames_in b)
-unfolding batch_of no_frames
-batch_is b frames count h each e =
-    let n : count ≡ min 257 (length (frames_in b)) = omega (arith, length_frames b) in
-    rw (over_filled no_frame (frames_in b) 256 frames h each, n)
-
 -- ---- burst counts
 pub length_bursts : (b : List ℕ) → length (bursts_in b) ≡ burst_count b
 unfolding bursts_in
@@ -58,13 +50,6 @@ burst_at_lem b i d h = tabulate_at (burst_count b) 0 i (burst_at b) d h ∙ rw z
 
 pub burst_past : (b : List ℕ) (i : ℕ) (d : ℕ) → burst_count b ≤ i → get_or (bursts_in b) i d ≡ d
 burst_past b i d h = get_or_past (bursts_in b) i d (omega (arith, length_bursts b))
-
-pub bursts_is : (b counts : List ℕ) (count : ℕ) → length counts ≡ 32 → ((i : ℕ) → i < 32 → get_or counts i 0 ≡ get_or (bursts_in b) i 0) → count ≡ min (burst_count b) 33
-    → record { counts = counts; count = count } ≡ bursts_of (bursts_in b)
-unfolding bursts_of no_bursts
-bursts_is b counts count h each e =
-    let n : count ≡ min 33 (length (bursts_in b)) = omega (arith, length_bursts b) in
-    rw (over_filled 0 (bursts_in b) 32 counts h each, n)
 
 -- of the burst counts as chunks of 2 bytes
 abbrev pub known_burst : List ℕ → Bool

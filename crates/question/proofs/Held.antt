@@ -7,7 +7,7 @@ use native.Mathlib.Omega.{arith}
 use borrow.Author.Tests.{leb-true, leb-false, lt-leb}
 use lib.Dec.{leb}
 use lib.Ieee.{Float}
-use lib.ListN.{length, take}
+use lib.ListN.{length, replicate, take}
 use lib.Seq.{take_all, take_at}
 use Rattle.limits.specs.Values.{ok_length, ok_burst}
 use Rattle.limits.specs.declared.refusal.Refusal.TheVariants.{TooManyFrames, OutsideLimits, TooManyBursts}
@@ -20,7 +20,7 @@ use Rattle.rate.specs.declared.types.RateController.{RateController}
 use Rattle.rate.specs.Calls.{Frames, Price, verdict, refused, step, held_frames}
 use Rattle.rate.proofs.ByKind.{price_outside, price_too_many}
 use Rattle.rate.proofs.Passes.{held_step}
-use Rattle.question.specs.Body.{Batch, Bursts, no_frames, no_bursts, batch_of, bursts_of}
+use Rattle.question.specs.Body.{Prefix, prefix_of, no_frame, batch_of, bursts_of}
 use Rattle.question.specs.Over.{over}
 
 -- at most m are all held
@@ -47,23 +47,23 @@ module _ (k : RateController) (floor ordinary gap : Float) (bs : List ℕ) where
   too_many_outside ok t q = price_outside k floor ordinary gap bs (rw (← t, q)) refl
 
 -- and so is b
-module _ (k : RateController) (floor ordinary gap : Float) (bs : List ℕ) (b : Bursts) (e : b ≡ bursts_of bs) where
+module _ (k : RateController) (floor ordinary gap : Float) (bs : List ℕ) (b : Prefix ℕ 32) (e : b ≡ bursts_of bs) where
   count_is : b.count ≡ min 33 (length bs)
-  unfolding bursts_of
-  count_is = ap (λ (x : Bursts). x.count) e
+  unfolding prefix_of
+  count_is = ap (λ (x : Prefix ℕ 32). x.count) e
 
   pub too_many : (ok within : Bool) → ok ≡ lengths k floor ordinary gap bs → ok ≡ true → within ≡ every ok_burst bs → within ≡ true → 32 < b.count → refused k (Refused TooManyBursts) ≡ step k (Price floor ordinary gap bs)
   too_many ok within t q u w h =
       price_too_many k floor ordinary gap bs (and_true (lengths k floor ordinary gap bs) (every ok_burst bs) (sym t ∙ q) (sym u ∙ w)) refl (omega (arith, count_is))
 
   -- the counts that are lent of the array
-  all_held : b.count ≤ 32 → take b.count b.counts ≡ bs
-  unfolding bursts_of
+  all_held : b.count ≤ 32 → take b.count b.entries ≡ bs
+  unfolding prefix_of
   all_held h =
       let n : length bs ≤ 32 = omega (arith, count_is) in
-      ap (λ (x : Bursts). take b.count x.counts) e ∙ held 32 b.count bs no_bursts n (omega (arith, count_is))
+      ap (λ (x : Prefix ℕ 32). take b.count x.entries) e ∙ held 32 b.count bs (replicate 32 0) n (omega (arith, count_is))
 
-  pub bursts_held : b.count ≤ 32 → (r : Answer) → r ≡ step k (Price floor ordinary gap (take b.count b.counts)) → r ≡ step k (Price floor ordinary gap bs)
+  pub bursts_held : b.count ≤ 32 → (r : Answer) → r ≡ step k (Price floor ordinary gap (take b.count b.entries)) → r ≡ step k (Price floor ordinary gap bs)
   bursts_held h r f = f ∙ ap (λ (xs : List ℕ). step k (Price floor ordinary gap xs)) (all_held h)
 
 -- ---- frames: b is what a call gave
@@ -75,15 +75,15 @@ step_many : (k : RateController) (fs : List Frame) (snr : Reading) → 256 < len
 unfolding step verdict
 step_many k fs snr h = rw (lt-leb (length fs) 256 h)
 
-pub frames_held : (k : RateController) (fs : List Frame) (snr : Reading) (b : Batch) → b ≡ batch_of fs → held_frames k b.frames b.count snr ≡ step k (Frames fs snr)
-unfolding batch_of
+pub frames_held : (k : RateController) (fs : List Frame) (snr : Reading) (b : Prefix Frame 256) → b ≡ batch_of fs → held_frames k b.entries b.count snr ≡ step k (Frames fs snr)
+unfolding prefix_of
 frames_held k fs snr b e = rw e (go (leb (length fs) 256) refl)
   where
-    go : (t : Bool) → leb (length fs) 256 ≡ t → held_frames k (over (take 256 fs) no_frames) (min 257 (length fs)) snr ≡ step k (Frames fs snr)
+    go : (t : Bool) → leb (length fs) 256 ≡ t → held_frames k (over (take 256 fs) (replicate 256 no_frame)) (min 257 (length fs)) snr ≡ step k (Frames fs snr)
     go true q =
         let few : length fs ≤ 256 = leb-true (length fs) 256 q in
         let n : min 257 (length fs) ≡ length fs = omega arith in
-        rw n (held_step k (over (take 256 fs) no_frames) fs snr (λ h. held 256 (length fs) fs no_frames h refl))
+        rw n (held_step k (over (take 256 fs) (replicate 256 no_frame)) fs snr (λ h. held 256 (length fs) fs (replicate 256 no_frame) h refl))
     go false q =
         let many : 256 < length fs = leb-false (length fs) 256 q in
-        held_many k (over (take 256 fs) no_frames) (min 257 (length fs)) snr (omega arith) ∙ sym (step_many k fs snr many)
+        held_many k (over (take 256 fs) (replicate 256 no_frame)) (min 257 (length fs)) snr (omega arith) ∙ sym (step_many k fs snr many)

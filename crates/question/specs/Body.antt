@@ -7,8 +7,7 @@ use Rattle.rules.specs.declared.types.Frame.{Frame}
 use Rattle.rate.specs.Calls.{Call, Frames, Echo, Silence, Snr, Seed, Price, Family}
 use Rattle.question.specs.Bytes.{byte, le16, le32, float, ok_reading, reading_of}
 use Rattle.question.specs.Over.{over}
-pub use Rattle.question.specs.declared.types.Batch.{Batch}
-pub use Rattle.question.specs.declared.types.Bursts.{Bursts}
+pub use Rattle.question.specs.declared.types.Prefix.{Prefix}
 
 -- whether each of the n numbers from i on passes
 unfoldable pub all_from : ℕ → ℕ → (ℕ → Bool) → Bool
@@ -107,20 +106,17 @@ call_of b =
     (Seed (float (drop 1 b))))))))
 
 -- ---- the two lists as arrays
--- what stands in an array past the frames, and past the burst counts
+-- as an array of the first n, with a past them, and their number, counted no further than what decides: n + 1 is over n
+unfoldable pub prefix_of : {A : Type 0} (n : ℕ) → A → List A → Prefix A n
+prefix_of n a xs = record { entries = over (take n xs) (replicate n a); count = min (n + 1) (length xs) }
+
+-- what stands in an array past the frames
 abbrev pub no_frame : Frame
 no_frame = record { rung = rung 0; detected = false; decoded = false; combined = false; capacity = 0; air = f0 }
 
-unfoldable pub no_frames : List Frame
-no_frames = replicate 256 no_frame
+-- "over 256 frames", "over 32 burst counts"
+abbrev pub batch_of : List Frame → Prefix Frame 256
+batch_of fs = prefix_of 256 no_frame fs
 
-unfoldable pub no_bursts : List ℕ
-no_bursts = replicate 32 0
-
--- frames as an array of 256 and their number, counted no further than what decides: 257 is "over 256 frames"
-unfoldable pub batch_of : List Frame → Batch
-batch_of fs = record { frames = over (take 256 fs) no_frames; count = min 257 (length fs) }
-
--- burst counts as an array of 32 and their number, counted no further than 33, "over 32 burst counts"
-unfoldable pub bursts_of : List ℕ → Bursts
-bursts_of bs = record { counts = over (take 32 bs) no_bursts; count = min 33 (length bs) }
+abbrev pub bursts_of : List ℕ → Prefix ℕ 32
+bursts_of bs = prefix_of 32 0 bs

@@ -5,7 +5,7 @@ ghost use Rattle.limits.specs.Values.{ok_burst};
 ghost use Rattle.question.specs.Body.{all_from, frame_count, ok_flags, ok_frames, frame_of, frames_in, no_frame, ok_echo, ok_silence, ok_snr, ok_families, ok_prices, burst_count, bursts_in, ok_seed, ok_body, batch_of, bursts_of};
 
 use crate::bytes::{byte_at, f64_of, ok_reading, past, u16_of};
-use crate::types::{Batch, Bursts, Kind};
+use crate::types::{Kind, Prefix};
 use ladder::types::Rung;
 use rules::types::Frame;
 use std::array;
@@ -135,12 +135,12 @@ fn frame_at(body: &[u8], i: usize) -> Frame
     }
 }
 
-// The frames of a body of frames.
-pub fn frames_of(body: &[u8]) -> Batch
+// The frames of a body of frames: the first 256.
+pub fn frames_of(body: &[u8]) -> Prefix<Frame, 256>
     ensures { result ≡ batch_of (frames_in body.now) }
 {
-    Batch {
-        frames: array::from_fn(|i| frame_at(body, i)),
+    Prefix {
+        entries: array::from_fn(|i| frame_at(body, i)),
         count: frame_count(body).min(257),
     }
 }
@@ -173,12 +173,12 @@ fn burst_at(body: &[u8], i: usize) -> u32
     }
 }
 
-// The burst counts of a body of prices.
-pub fn bursts_of(body: &[u8]) -> Bursts
+// The burst counts of a body of prices: the first 32.
+pub fn bursts_of(body: &[u8]) -> Prefix<u32, 32>
     ensures { result ≡ bursts_of (bursts_in body.now) }
 {
-    Bursts {
-        counts: array::from_fn(|i| burst_at(body, i)),
+    Prefix {
+        entries: array::from_fn(|i| burst_at(body, i)),
         count: burst_count(body).min(33),
     }
 }

@@ -18,7 +18,7 @@ fn frames_event(k: RateController, body: &[u8]) -> Answer
         return k.observe_frame(frame_of(past(body, 10)), snr);
     }
     let batch = frames_of(body);
-    let frames = batch.frames;
+    let frames = batch.entries;
     let count = batch.count;
     rate::frames::observe_held(k, frames, count, snr)
 }

@@ -1,8 +1,6 @@
-// The kinds of bodies and the airs, by the file's numbers; and what a body holds, as arrays.
+// The kinds of bodies and the airs, by the file's numbers; and a list of a body, as an array.
 ghost use Rattle.std.specs.Prelude.{◌≡◌, take};
 ghost use Rattle.question.specs.Numbers.{NamesKind, NamesAir};
-
-use rules::types::Frame;
 
 // What a body is of.
 #[derive(Clone, Copy, Debug, PartialEq, Eq)]
@@ -64,35 +62,18 @@ impl TryFrom<u32> for Bandwidth {
     }
 }
 
-// The frames of a body: the first 256, and how many there are, counted no further than 257, which is too many.
-// Two types, as `Bursts` below: a generic struct has no array of a type parameter.
+// A list as far as its first N entries, and how many it has, counted no further than N + 1, which is too many.
 #[derive(Clone, Copy)]
-pub struct Batch {
-    pub frames: [Frame; 256],
+pub struct Prefix<T, const N: usize> {
+    pub entries: [T; N],
     pub count: usize,
 }
 
-impl Batch {
-    // The frames, without what stands past them.
-    pub fn held(&self) -> &[Frame]
-        ensures { result.now ≡ take self.now.count self.now.frames }
+impl<T, const N: usize> Prefix<T, N> {
+    // The entries, without what stands past them.
+    pub fn held(&self) -> &[T]
+        ensures { result.now ≡ take self.now.count self.now.entries }
     {
-        self.frames.get(..self.count).unwrap_or(&self.frames)
-    }
-}
-
-// The burst counts of a body: the first 32, and how many there are, counted no further than 33, which is too many.
-#[derive(Clone, Copy)]
-pub struct Bursts {
-    pub counts: [u32; 32],
-    pub count: usize,
-}
-
-impl Bursts {
-    // The counts, without what stands past them.
-    pub fn held(&self) -> &[u32]
-        ensures { result.now ≡ take self.now.count self.now.counts }
-    {
-        self.counts.get(..self.count).unwrap_or(&self.counts)
+        self.entries.get(..self.count).unwrap_or(&self.entries)
     }
 }

@@ -8,7 +8,7 @@ use Rattle.rate.specs.declared.types.RateController.{RateController}
 use Rattle.rate.specs.Calls.{Frames, step}
 use Rattle.rate.specs.Reads.{choice_of}
 use Rattle.question.specs.Bytes.{reading_of}
-use Rattle.question.specs.declared.types.Batch.{Batch}
+use Rattle.question.specs.declared.types.Prefix.{Prefix}
 use Rattle.question.specs.Body.{no_frame, frames_in, batch_of}
 use Rattle.question.specs.File.{air, body_at}
 use Rattle.by_value.specs.Sums.{Sums, none, added, fresh_for, frame_sums}
@@ -29,7 +29,7 @@ module _ (i : ℕ) (frames : List Frame) (snr : Reading) (k : RateController) (s
 pub loop-i-preserved : goal.loop-i-preserved
 loop-i-preserved c =
     let l = c.loop-i in
-    let frames = c.frames_of-batch.result.frames in
+    let frames = c.frames_of-batch.result.entries in
     let snr = c.reading_of-snr.result in
     let left : 256 - l.i ≡ suc (256 - (l.i + 1)) = omega (arith, c.loop-i-test.true) in
     let long : length frames ≡ 256 = search (rules, of_parts) in
@@ -38,14 +38,14 @@ loop-i-preserved c =
 
 -- what is read of the file first
 module _ (body : List ℕ) (k : RateController) where
-  told : (snr : Reading) (batch : Batch) (part : List ℕ) → snr ≡ reading_of part → part ≡ drop 1 body → batch ≡ batch_of (frames_in body)
-      → frame_sums 256 0 batch.frames snr k none ≡ frame_sums 256 0 (batch_of (frames_in body)).frames (reading_of (drop 1 body)) k none
+  told : (snr : Reading) (batch : Prefix Frame 256) (part : List ℕ) → snr ≡ reading_of part → part ≡ drop 1 body → batch ≡ batch_of (frames_in body)
+      → frame_sums 256 0 batch.entries snr k none ≡ frame_sums 256 0 (batch_of (frames_in body)).entries (reading_of (drop 1 body)) k none
   told snr batch part e f g = rw (e, f, g) refl
 
 pub returns : goal.returns
 returns c =
     let l = c.loop-i in
-    let frames = c.frames_of-batch.result.frames in
+    let frames = c.frames_of-batch.result.entries in
     let snr = c.reading_of-snr.result in
     let file = c.args.file.now in
     let body = body_at file 0 in
