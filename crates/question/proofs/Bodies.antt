@@ -6,7 +6,7 @@ use Prim.Native.Nat.{ℕ, ◌+◌, ◌*◌, ◌<◌, ◌≤◌}
 use native.Mathlib.Nat.{zero-add}
 use native.Mathlib.Omega.{arith}
 use lib.Dec.{ltb, leb}
-use lib.ListN.{length, get_or, drop, take}
+use lib.ListN.{length, get_or, set, drop, take}
 use Rattle.std.proofs.lemmas.List.{get_or-take, get_or_past}
 use Rattle.std.specs.List.{list_all}
 use Rattle.ladder.specs.Lists.{every, tabulate}
@@ -14,6 +14,7 @@ use Rattle.limits.specs.Values.{ok_burst}
 use Rattle.rules.specs.declared.types.Frame.{Frame}
 use Rattle.question.specs.Bytes.{byte, le16}
 use Rattle.question.specs.Body.{all_from, frame_count, frame_bytes, ok_flags, frame_of, frame_at, frames_in, burst_count, burst_at, bursts_in}
+use Rattle.question.proofs.Over.{Over, copy_next}
 use Rattle.question.proofs.Chunks.{chunk}
 use Rattle.question.proofs.Ranges.{length_tabulate, tabulate_at, every_tabulate, all_tabulate, all_same}
 
@@ -36,8 +37,9 @@ pub frame_at_lem : (b : List ℕ) (i : ℕ) (d : Frame) → i < frame_count b �
 unfolding frames_in frame_at
 frame_at_lem b i d h = tabulate_at (frame_count b) 0 i (frame_at b) d h ∙ rw zero-add
 
-pub frame_past : (b : List ℕ) (i : ℕ) (d : Frame) → frame_count b ≤ i → get_or (frames_in b) i d ≡ d
-frame_past b i d h = get_or_past (frames_in b) i d (omega (arith, length_frames b))
+-- the next one is copied, as calls gave it
+pub frame_next : (b : List ℕ) (old new : List Frame) (i : ℕ) (f : Frame) → i < frame_count b → i < length old → f ≡ frame_of (frame_bytes b i) → Over (take i (frames_in b)) old i new → Over (take (i + 1) (frames_in b)) old (i + 1) (set new i f)
+frame_next b old new i f h g e o = copy_next (frames_in b) old new i f f (omega (arith, length_frames b)) g (e ∙ sym (frame_at_lem b i f h)) o
 
 -- ---- burst counts
 pub length_bursts : (b : List ℕ) → length (bursts_in b) ≡ burst_count b

@@ -2,7 +2,7 @@
 use mathlib.Core.Path.{◌≡◌, refl, sym, ap, ◌∙◌}
 use mathlib.Core.Bool.{Bool, true, false}
 use mathlib.Core.List.{List, [], ◌∷◌, ◌++◌, append_assoc, append-nil}
-use Prim.Native.Nat.{ℕ, ◌+◌, ◌-◌, ◌≤◌, ◌<◌, zero-le}
+use Prim.Native.Nat.{ℕ, ◌+◌, ◌-◌, ◌≤◌, ◌<◌, zero-le, min}
 use native.Mathlib.Numerals.{add-one}
 use native.Mathlib.Omega.{arith}
 use borrow.Author.Tests.{leb-true, leb-false}
@@ -107,6 +107,16 @@ pub copy_next : {A : Type 0} (src old new : List A) (i : ℕ) (d v : A) → i < 
 copy_next src old new i d v h g e o =
     let l : length (take i src) ≡ i = length-take-le i src (omega arith) in
     rw (e, add-one i, take-suc src i d h) (rw (add-one i) at (put o (get_or src i d) (omega arith)))
+
+-- once as many are copied as there are, or as m
+pub copy_end : {A : Type 0} (src old new : List A) (m i : ℕ) → min m (length src) ≤ i → i ≤ length src → i ≤ m → Over (take i src) old i new → new ≡ over (take m src) old
+copy_end src old new m i h g k o = go (leb m i) refl
+  where
+    go : (b : Bool) → leb m i ≡ b → new ≡ over (take m src) old
+    go true e = let q : i ≡ m = omega (arith, leb-true m i e) in o.is ∙ ap (λ j. over (take j src) old) q
+    go false e =
+        let q : length src ≤ i = omega (arith, leb-false m i e) in
+        o.is ∙ ap (λ xs. over xs old) (take_all i src q ∙ sym (take_all m src (omega (arith, leb-false m i e))))
 
 -- ---- a text that is written piece by piece
 -- what is left is a piece and more. (A record, so that antt finds the two from it, which it does not from an equation with `++`.)
