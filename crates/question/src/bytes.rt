@@ -27,7 +27,7 @@ pub fn byte_at(bytes: &[u8], at: usize) -> u8
     bytes.get(at).copied().unwrap_or(0)
 }
 
-// Two bytes as a number.
+// Two bytes as a number. Not by `first_chunk`, which has no bytes to give past the end.
 #[tactic(auto, unfolding(crate::specs::Bytes::le16))]
 pub fn u16_of(bytes: &[u8]) -> u16
     ensures { result ≡ le16 bytes.now }
