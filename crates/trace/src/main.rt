@@ -6,12 +6,14 @@
 
 ghost use Rattle.std.specs.Prelude.{◌≤◌, IfSome};
 
-use account::types::{Core, Mark, Trying};
+use account::types::{Core, Try};
+use ladder::columns::Columns;
 use ladder::types::Rung;
 use limits::reading::Reading;
-use limits::refusal::Verdict;
+use limits::refusal::Refusal;
 use question::bytes::{f64_of, part, past, reading_of, u32_of};
-use rate::types::{Answer, Made, RateController, Rated};
+use rate::player::Player;
+use rate::types::{RateController, Reply, TryMarks};
 use std::alloc::{AllocError, Global};
 use std::io::Read;
 use std::{array, fmt, io};
@@ -50,38 +52,38 @@ impl Mix {
 
     fn reading(self, x: Reading) -> Mix {
         match x {
-            Reading::Missing => self.word(0).word(0),
-            Reading::Value(v) => self.word(1).float(v),
+            None => self.word(0).word(0),
+            Some(v) => self.word(1).float(v),
         }
     }
 
-    fn trying(self, y: Trying) -> Mix {
+    fn trying(self, y: Option<Try>) -> Mix {
         match y {
-            Trying::Nothing => self.word(0).word(0).word(0),
-            Trying::Running(r, calls, frames) => {
-                self.word(u64::from(r.0) + 1)
-                    .word(u64::from(calls))
-                    .word(u64::from(frames))
+            None => self.word(0).word(0).word(0),
+            Some(t) => {
+                self.word(u64::from(t.rung.0) + 1)
+                    .word(u64::from(t.calls))
+                    .word(u64::from(t.frames))
             }
         }
     }
 
-    fn mark(self, m: Mark) -> Mix {
+    fn mark(self, m: Option<Rung>) -> Mix {
         match m {
-            Mark::Nowhere => self.word(0),
-            Mark::On(r) => self.word(u64::from(r.0) + 1),
+            None => self.word(0),
+            Some(r) => self.word(u64::from(r.0) + 1),
         }
     }
 
-    fn rated(self, x: Rated) -> Mix {
+    fn rated(self, x: Result<f64, Refusal>) -> Mix {
         match x {
-            Rated::Refused(_) => self.word(0),
-            Rated::Of(v) => self.float(v),
+            Err(_) => self.word(0),
+            Ok(v) => self.float(v),
         }
     }
 
     // The state but for the rungs.
-    fn core(self, c: Core) -> Mix {
+    fn core(self, c: &Core) -> Mix {
         self.word(u64::from(c.place.0))
             .trying(c.trying)
             .reading(c.snr)
@@ -93,7 +95,7 @@ impl Mix {
     }
 
     // One rung: its account, time, wait, value, estimate and `lossless`.
-    fn rung(self, k: RateController, r: Rung) -> Mix {
+    fn rung(self, k: &RateController, r: Rung) -> Mix {
         let a = k.account(r);
         self.float(a.bytes)
             .float(a.air)
@@ -106,8 +108,8 @@ impl Mix {
     }
 }
 
-fn hash(k: RateController) -> u64 {
-    let mut all = Mix(0xcbf2_9ce4_8422_2325).core(k.state.core);
+fn hash(k: &RateController) -> u64 {
+    let mut all = Mix(0xcbf2_9ce4_8422_2325).core(&k.state.core);
     for r in 0..k.table.air.count {
         all = all.rung(k, Rung(r));
     }
@@ -121,7 +123,7 @@ struct Head {
     rungs: usize,
     floors: u32,
     wide: bool,
-    limited: u32,
+    limited: usize,
 }
 
 // What is left of the input. Past its end each number is 0.
@@ -144,13 +146,13 @@ impl<'a> Input<'a> {
 
     // The head that is next, unless it has more rungs or limits than are played.
     fn head(&mut self) -> Option<Head>
-        ensures { IfSome result (λ head. head.rungs ≤ MOST) }
+        ensures { IfSome result (λ head. (head.rungs ≤ MOST) × (head.limited ≤ MOST)) }
     {
         let rungs = self.number() as usize;
         let floors = self.number();
         let wide = self.number() == 1;
-        let limited = self.number();
-        (rungs <= MOST && limited as usize <= MOST).then_some(Head {
+        let limited = self.number() as usize;
+        (rungs <= MOST && limited <= MOST).then_some(Head {
             rungs,
             floors,
             wide,
@@ -173,57 +175,56 @@ fn column<T: Drop, F: Fn(&[u8]) -> T>(
 }
 
 // The controller of the list with that head, whose rungs and limits are next.
-fn controller(alloc: Global, input: &mut Input, head: Head) -> Result<Made, AllocError>
-    requires { head.rungs ≤ MOST }
+fn controller(
+    alloc: Global,
+    input: &mut Input,
+    head: Head,
+) -> Result<Result<RateController, Refusal>, AllocError>
+    requires { (head.rungs ≤ MOST) × (head.limited ≤ MOST) }
 {
     let rows = input.bytes(head.rungs * RUNG);
     let thresholds = column(alloc, rows, head.rungs, |row| f64_of(row))?;
     let payload = column(alloc, rows, head.rungs, |row| u32_of(past(row, 8)))?;
     let capacity = column(alloc, rows, head.rungs, |row| u32_of(past(row, 12)))?;
     let times = column(alloc, rows, head.rungs, |row| f64_of(past(row, 16)))?;
-    let given = input.rest;
-    let limits = array::from_fn(|i| reading_of(past(given, i * READING)));
-    Ok(RateController::for_table(
-        &thresholds,
-        &payload,
-        &capacity,
-        &times,
-        head.floors,
-        limits,
-        head.limited,
-    ))
+    let given = input.bytes(head.limited * READING);
+    let limits: [_; MOST] = array::from_fn(|i| reading_of(past(given, i * READING)));
+    Ok(RateController::for_table(&Columns {
+        thresholds: &thresholds,
+        payloads: &payload,
+        capacities: &capacity,
+        times: &times,
+        limits: &limits[..head.limited],
+        floors: head.floors,
+    }))
 }
 
 // ---- playing it
-fn number_of(v: Verdict) -> u32 {
-    match v {
-        Verdict::Accepted => 0,
-        Verdict::Refused(why) => why.number(),
-    }
-}
-
 // The rung that is tried, or `-`.
 #[derive(Drop)]
-struct Tried(Trying);
+struct Tried(Option<Rung>);
 
 impl fmt::Display for Tried {
     fn fmt<W: fmt::Write>(&self, f: &mut fmt::Formatter<W>) -> fmt::Result {
         match self.0 {
-            Trying::Nothing => f.write_str("-"),
-            Trying::Running(r, _, _) => write!(f, "{}", r.0),
+            None => f.write_str("-"),
+            Some(r) => write!(f, "{}", r.0),
         }
     }
 }
 
-// Writes a call's line.
-fn tell(rt: &impl Print, a: Answer) -> io::Result<()> {
-    let k = a.controller;
+// Writes a call's line. Of a refused call both marks are off.
+fn tell(rt: &impl Print, k: &RateController, reply: Reply) -> io::Result<()> {
+    let number = reply.err().map_or(0, |why| why.number());
+    let marks = reply.unwrap_or(TryMarks {
+        ended: false,
+        begun: false,
+    });
     let choice = k.choice().0;
-    let tried = Tried(k.state.core.trying);
+    let tried = Tried(k.probing());
     let ofdm = u32::from(k.refuses(Rung(k.table.air.floors)));
-    let ended = u32::from(a.ended);
-    let begun = u32::from(a.begun);
-    let number = number_of(a.verdict);
+    let ended = u32::from(marks.ended);
+    let begun = u32::from(marks.begun);
     let all = hash(k);
     println!(rt; "{choice} {tried} {ofdm} {ended} {begun} {number} {all:016x}")
 }
@@ -235,12 +236,11 @@ fn play_calls(
     input: &mut Input,
     calls: u32,
 ) -> io::Result<()> {
-    let mut k = start;
+    let mut player = Player::new(start);
     for _ in 0..calls {
         let n = input.number() as usize;
-        let a = question::event::answer_event(k, input.bytes(n));
-        tell(rt, a)?;
-        k = a.controller;
+        let reply = question::event::play(&mut player, input.bytes(n));
+        tell(rt, player.controller(), reply)?;
     }
     Ok(())
 }
@@ -260,18 +260,16 @@ fn play_list(rt: &impl Print, alloc: Global, input: &mut Input) -> io::Result<()
         return Ok(());
     };
     let made = controller(alloc, input, head)?;
-    let _ = input.bytes(head.limited as usize * READING);
     let calls = input.number();
-    match made.verdict {
-        Verdict::Refused(why) => {
+    match made {
+        Ok(k) => {
+            println!(rt; "table places {}", k.table.air.places)?;
+            play_calls(rt, k.for_air(head.wide), input, calls)
+        }
+        Err(why) => {
             println!(rt; "refused {}", why.number())?;
             skip_calls(input, calls);
             Ok(())
-        }
-        Verdict::Accepted => {
-            let k = made.controller;
-            println!(rt; "table places {}", k.table.air.places)?;
-            play_calls(rt, k.for_air(head.wide), input, calls)
         }
     }
 }
