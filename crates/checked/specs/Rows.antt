@@ -6,7 +6,7 @@ use Rattle.half.specs.Power.{half, f1022}
 use Rattle.half.specs.Logistic.{decode_probability}
 use Rattle.limits.specs.declared.refusal.Refusal.{Refusal}
 use Rattle.limits.specs.declared.refusal.Refusal.TheVariants.{EmptyFront}
-use Rattle.std.specs.Prelude.{Ok, Err}
+use Rattle.std.specs.Prelude.{Err}
 use Rattle.limits.specs.Refusals.{refusal_number}
 use Rattle.ladder.specs.Lists.{select}
 use Rattle.ladder.specs.Tables.{Columns, table_verdict, front_of_columns, table_of, for_air}

@@ -9,10 +9,7 @@ use mir.ValLaws.{to_z_pos, to_z-of_z}
 use Rattle.limits.specs.declared.refusal.Refusal.{Refusal}
 use Rattle.limits.specs.declared.refusal.Refusal.TheVariants.{ColumnSize, ColumnsDiffer, TableValue, FloorCount, EmptyFront, UnknownRung, TooManyFrames, OutsideLimits, TooManyBursts, FileHeader, FilePairs, FileBody, SheetRoom, AnswerCount}
 use Rattle.limits.specs.Refusals.{refusal_number}
-use Rattle.limits.specs.Refusals.{Verdict}
-use Rattle.std.specs.Prelude.{Ok, Err}
 use Rattle.exports.specs.Status.{minus_number}
-use Rattle.exports.specs.Tables.{verdict_status}
 
 pub minus_fits : (n : ℕ) → n < 4294967296 → SFits w64 (neg_ℤ (pos n))
 minus_fits zero h = omega arith

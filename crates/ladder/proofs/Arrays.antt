@@ -7,7 +7,7 @@ use native.Mathlib.Nat.{not-suc-le-zero, le_of_suc-le-suc, le_of_lt}
 use native.Mathlib.Numerals.{add-one}
 use native.Mathlib.Omega.{arith}
 use lib.ListN.{length, get_or, take, drop, set, replicate, length-append, length-map, get_or-eq_default}
-use lib.Seq.{set-append_seam, set_at, set_out, append_snoc, drop-cons, take-suc, length-take-le}
+use lib.Seq.{set-append_seam, set_at, append_snoc, drop-cons, take-suc, length-take-le}
 use Rattle.ladder.specs.Lists.{filled}
 
 module _ {A : Type 0} where
@@ -50,10 +50,6 @@ module _ {A : Type 0} where
     -- past the end the default is read
     pub outside : (e : A) → 32 ≤ i → e ≡ get_or l i e
     outside e h = sym (get_or-eq_default l e (subst (λ (n : ℕ). n ≤ i) (sym long) h))
-
-    -- past the end a store changes nothing
-    pub unstored : (a : A) → 32 ≤ i → l ≡ set l i a
-    unstored a h = sym (set_out l i a (subst (λ (n : ℕ). n ≤ i) (sym long) h))
 
 -- how many entries an array of structs has is said of a list of their parts; for `search (rules, of_parts)`
 pub of_parts : (X Y : Type 0) (f : X → Y) (l : List X) (n : ℕ) → length (map f l) ≡ n → length l ≡ n

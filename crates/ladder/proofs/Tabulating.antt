@@ -1,43 +1,13 @@
--- An array as a loop fills it, entry by entry, with what a function gives at each place: the entries stored so far, and those still to come, are all.
--- Assumes nothing.
+-- An array that `array::from_fn` makes: it has at each place what the closure answers. Assumes nothing.
 use mathlib.Core.Path.{◌≡◌, refl, sym, ap, subst, ◌∙◌}
-use mathlib.Core.List.{List, [], ◌∷◌, ◌++◌, append-nil}
-use Prim.Native.Nat.{ℕ, zero, suc, ◌+◌, ◌-◌, ◌<◌, ◌≤◌}
-use native.Mathlib.Nat.{sub-zero, zero-add, add-zero, suc-add, add-suc, not-suc-le-zero, le_of_suc-le-suc}
-use native.Mathlib.Numerals.{add-one}
+use mathlib.Core.List.{List, [], ◌∷◌}
+use Prim.Native.Nat.{ℕ, zero, suc, ◌+◌, ◌<◌}
+use native.Mathlib.Nat.{zero-add, add-zero, suc-add, add-suc, not-suc-le-zero, le_of_suc-le-suc}
 use native.Mathlib.Omega.{arith}
-use lib.ListN.{length, get_or, take, set, length-set}
-use lib.Seq.{append_snoc, take-suc-set, take_all}
+use lib.ListN.{length, get_or}
 use Rattle.std.specs.Array.{IsFromFnResult, IsFromFnResultFrom}
 use denote.Param.Members.{Mut, Called}
 use Rattle.ladder.specs.Lists.{tabulate}
-
-module _ {A : Type 0} (f : ℕ → A) (n : ℕ) where
-  pub record Tabulating (i : ℕ) (l : List A) : Type 0 where
-    pub size : length l ≡ n
-    pub rest : take i l ++ tabulate (n - i) i f ≡ tabulate n 0 f
-
-  pub tabulating_starts : (l : List A) → length l ≡ n → Tabulating 0 l
-  tabulating_starts l long = record { size = long; rest = rw sub-zero refl }
-
-  module _ (i : ℕ) (l : List A) (so_far : Tabulating i l) where
-    pub tabulating_stores : (x : A) → i < n → x ≡ f i → Tabulating (i + 1) (set l i x)
-    tabulating_stores x h e =
-        let m = n - (i + 1) in
-        let left : n - i ≡ suc m = omega arith in
-        let now : take (i + 1) (set l i x) ≡ take i l ++ x ∷ [] = ap (λ (k : ℕ). take k (set l i x)) (add-one i) ∙ take-suc-set l i x (omega (arith, so_far.size)) in
-        let here : tabulate (n - i) i f ≡ x ∷ tabulate m (i + 1) f = rw (left, e, add-one i) refl in
-        record {
-          size = length-set l i x ∙ so_far.size;
-          rest = ap (λ (k : List A). k ++ tabulate m (i + 1) f) now ∙ append_snoc (take i l) x _ ∙ ap (λ (k : List A). take i l ++ k) (sym here) ∙ so_far.rest;
-        }
-
-    pub tabulating_ends : n ≤ i → l ≡ tabulate n 0 f
-    tabulating_ends h =
-        let none : n - i ≡ 0 = omega arith in
-        let all : take i l ≡ l = take_all i l (omega (arith, so_far.size)) in
-        let last : take i l ++ tabulate (n - i) i f ≡ l = ap (λ (k : ℕ). take i l ++ tabulate k i f) none ∙ append-nil (take i l) ∙ all in
-        sym last ∙ so_far.rest
 
 -- a list that has f at each place
 listed : {A : Type 0} (f : ℕ → A) (n i : ℕ) (l : List A) (d : A) → length l ≡ n → ((k : ℕ) → k < n → get_or l k d ≡ f (i + k)) → l ≡ tabulate n i f

@@ -1,5 +1,4 @@
 pub mod Stepping
-mod Bursts
 mod Passes
 mod Transmitted
 mod Played

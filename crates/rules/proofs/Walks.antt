@@ -5,7 +5,7 @@ use Prim.Native.Nat.{ℕ, zero, suc, ◌+◌, ◌-◌, ◌<◌, ◌≤◌, min}
 use native.Mathlib.Omega.{arith}
 use native.Mathlib.Numerals.{add-one}
 use lib.Dec.{eqb, ltb}
-use borrow.Author.Tests.{eq-eqb, ne_eqb, ltb-true, ltb-false}
+use borrow.Author.Tests.{ne_eqb, ltb-true, ltb-false}
 use Rattle.ladder.specs.declared.types.Table.{Table}
 use Rattle.ladder.specs.Types.{rung_at}
 use Rattle.account.specs.declared.types.State.{State}
@@ -20,9 +20,6 @@ module _ (t : Table) (r d n i : ℕ) (h : i < n) where
       let m = n - (i + 1) in
       let e : n - i ≡ suc m = omega arith in
       ap (λ (k : ℕ). place_from k i t r d) e ∙ sym (ap (λ (k : ℕ). cond (eqb (rung_at t i) r) i (place_from m k t r d)) (add-one i))
-
-  pub place_found : rung_at t i ≡ r → i ≡ place_from (n - i) i t r d
-  place_found q = sym (place_step ∙ ap (λ (b : Bool). cond b i (place_from (n - (i + 1)) (i + 1) t r d)) (eq-eqb (rung_at t i) r q))
 
   pub place_further : (rung_at t i ≡ r → ⊥) → place_from (n - (i + 1)) (i + 1) t r d ≡ place_from (n - i) i t r d
   place_further q = sym (place_step ∙ ap (λ (b : Bool). cond b i (place_from (n - (i + 1)) (i + 1) t r d)) (ne_eqb (rung_at t i) r q))
