@@ -8,7 +8,7 @@ use native.Mathlib.Omega.{arith}
 use borrow.Author.Tests.{leb-true, leb-false}
 use lib.Dec.{leb}
 use lib.ListN.{length, get_or, take, drop, set, replicate, length-replicate, length-take, length-append, length-drop, drop_of_length-le}
-use lib.Seq.{take_all, take_at, take-suc, length-take-le, drop-cons, drop-drop, drop-append_seam, take-append_seam, set-append_seam}
+use lib.Seq.{take_all, drop-cons, drop-drop, drop-append_seam, take-append_seam, set-append_seam}
 use borrow.Rule.Slice.PartMut.{put_mid, post_of}
 use Rattle.std.proofs.lemmas.List.{ext_get_or, get_or-replicate, get_or-append_right, get_or_append_left, get_or-drop, get_or-take, get_or_past}
 use Rattle.question.specs.Over.{over}
@@ -16,11 +16,6 @@ use Rattle.question.specs.Over.{over}
 pub over_length : {A : Type 0} (ds old : List A) → length ds ≤ length old → length (over ds old) ≡ length old
 unfolding over
 over_length ds old h = simp (length-append, length-drop) (omega arith)
-
--- what was written, read back
-pub over_read : {A : Type 0} (ds old new : List A) (n : ℕ) → n ≡ length ds → new ≡ over ds old → take n new ≡ ds
-unfolding over
-over_read ds old new n e f = rw f (take_at ds _ n (sym e))
 
 -- one element more; z is any default
 over_put : {A : Type 0} (z : A) (ds old : List A) (v : A) → length ds < length old → set (over ds old) (length ds) v ≡ over (ds ++ (v ∷ [])) old
@@ -100,13 +95,6 @@ module _ {A : Type 0} {ds old : List A} {k : ℕ} {new : List A} (o : Over ds ol
         is = rw (front, none_after, f, rest, append-nil) (over_over ds es old);
         room = omega arith;
       }
-
--- ---- the elements of src, copied one by one
-pub copy_next : {A : Type 0} (src old new : List A) (i : ℕ) (d v : A) → i < length src → i < length old → v ≡ get_or src i d → Over (take i src) old i new
-    → Over (take (i + 1) src) old (i + 1) (set new i v)
-copy_next src old new i d v h g e o =
-    let l : length (take i src) ≡ i = length-take-le i src (omega arith) in
-    rw (e, add-one i, take-suc src i d h) (rw (add-one i) at (put o (get_or src i d) (omega arith)))
 
 -- ---- a text that is written piece by piece
 -- what is left is a piece and more. (A record, so that antt finds the two from it, which it does not from an equation with `++`.)
