@@ -42,7 +42,7 @@ impl Sums {
     }
 }
 
-// Each event is a call.
+// Each event is a call. The loop goes by the number of the event, as the definition does; a walk by a `Reader` would count beside it.
 #[unsafe(no_mangle)]
 pub extern "C" fn by_value_events(file: &[u8]) -> u32
     ensures { result ≡ events_of file.now }

@@ -6,5 +6,4 @@ pub mod Bodies
 pub mod Pairs
 pub mod Events
 pub mod Held
-pub mod Readers
 mod Starting
