@@ -1,12 +1,11 @@
 -- The P rows of "Checked examples", as one table: what each says of the definitions that the calls promise. Definitions only; `proofs/Rows.antt` has the one theorem.
-use Rattle.std.specs.Prelude.{◌≡◌, Bool, true, false, not, ◌||◌, List, [], ◌∷◌, ℕ, eqb, Float, length, replicate}
+use Rattle.std.specs.Prelude.{◌≡◌, Bool, true, false, not, ◌||◌, List, [], ◌∷◌, ℕ, eqb, Float, length, replicate, Err}
 use Rattle.std.specs.Float.Ieee.{neg, lt}
 use Rattle.float.specs.Numbers.{f64, f0, f½, f1, f20}
 use Rattle.half.specs.Power.{half, f1022}
 use Rattle.half.specs.Logistic.{decode_probability}
 use Rattle.limits.specs.declared.refusal.Refusal.{Refusal}
 use Rattle.limits.specs.declared.refusal.Refusal.TheVariants.{EmptyFront}
-use Rattle.std.specs.Prelude.{Err}
 use Rattle.limits.specs.Refusals.{refusal_number}
 use Rattle.ladder.specs.Lists.{select}
 use Rattle.ladder.specs.Tables.{Columns, table_verdict, front_of_columns, table_of, for_air}

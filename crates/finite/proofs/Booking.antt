@@ -18,13 +18,11 @@ use Rattle.half.proofs.Range.{half_share}
 use Rattle.limits.specs.Values.{ok_air, ok_bytes}
 use Rattle.limits.specs.Refusals.{unless}
 use Rattle.limits.specs.declared.refusal.Refusal.TheVariants.{UnknownRung, OutsideLimits}
-use Rattle.std.specs.Prelude.{Ok}
+use Rattle.std.specs.Prelude.{Ok, None, Some}
 use Rattle.limits.proofs.Verdicts.{or_else_lem, unless_not}
-use Rattle.limits.specs.Readings.{Reading}
-use Rattle.std.specs.Prelude.{None, Some}
+use Rattle.limits.specs.Readings.{Reading, ok_snr}
 use Rattle.ladder.specs.declared.types.Table.{Table}
 use Rattle.ladder.specs.Types.{row, rung_at, rungs_of, places_of, is_floor, in_table}
-use Rattle.limits.specs.Readings.{ok_snr}
 use Rattle.ladder.proofs.Cases.{pick, pick_by, no_of}
 use Rattle.ladder.proofs.Entries.{All, all_set}
 use Rattle.account.specs.declared.types.Account.{Account}

@@ -9,21 +9,18 @@ use lib.Ieee.{Float, of_bits, neg, mul, le}
 use lib.Ieee.Fits.{and_l, and_r}
 use Rattle.float.specs.Numbers.{of_nat, f0, f1, f5, f20}
 use Rattle.limits.specs.Values.{f200, f60, milli, ok_db, ok_air, ok_bytes}
-use Rattle.std.specs.Prelude.{Ok}
-use Rattle.limits.specs.Readings.{Reading}
-use Rattle.std.specs.Prelude.{None, Some}
+use Rattle.std.specs.Prelude.{Ok, None, Some, Option}
+use Rattle.limits.specs.Readings.{Reading, ok_limit, ok_snr}
 use Rattle.ladder.specs.declared.types.Row.{Row}
 use Rattle.ladder.specs.declared.types.Table.{Table}
 use Rattle.ladder.specs.Lists.{every, tabulate}
 use Rattle.ladder.specs.Types.{no_row, row}
-use Rattle.limits.specs.Readings.{ok_limit, ok_snr}
 use Rattle.ladder.specs.Tables.{Columns, table_verdict, row_of, rows_of, prior_margin, family_gain, table_of, for_air}
 use Rattle.ladder.proofs.Cases.{pick, yes_of}
 use Rattle.ladder.proofs.Entries.{All}
 use Rattle.ladder.proofs.Accepted.{accepted_columns, Within, table_values}
 use Rattle.account.specs.declared.types.Account.{Account}
 use Rattle.account.specs.declared.types.Offsets.{Offsets}
-use Rattle.std.specs.Prelude.{Option, None, Some}
 use Rattle.account.specs.declared.types.Tariff.{Tariff}
 use Rattle.account.specs.declared.types.State.{State}
 use Rattle.account.proofs.FullAir.{TariffSound, IsWait}

@@ -12,17 +12,14 @@ use Rattle.float.specs.Numbers.{f0}
 use Rattle.limits.specs.Values.{ok_db, ok_share, ok_length, ok_burst}
 use Rattle.limits.specs.Refusals.{unless, or_else}
 use Rattle.limits.specs.declared.refusal.Refusal.TheVariants.{TooManyFrames, OutsideLimits, TooManyBursts}
-use Rattle.std.specs.Prelude.{Ok}
+use Rattle.std.specs.Prelude.{Ok, None, Some, Option}
 use Rattle.limits.proofs.Verdicts.{or_else_lem, unless_not}
-use Rattle.limits.specs.Readings.{Reading}
-use Rattle.std.specs.Prelude.{None, Some}
+use Rattle.limits.specs.Readings.{Reading, ok_snr, ok_limit}
 use Rattle.ladder.specs.declared.types.Table.{Table}
 use Rattle.ladder.specs.Lists.{every}
 use Rattle.ladder.specs.Types.{row}
-use Rattle.limits.specs.Readings.{ok_snr, ok_limit}
 use Rattle.ladder.proofs.Entries.{All, all_replicate}
 use Rattle.account.specs.declared.types.Account.{Account}
-use Rattle.std.specs.Prelude.{Option, None, Some}
 use Rattle.account.specs.declared.types.Tariff.{Tariff}
 use Rattle.account.specs.declared.types.State.{State}
 use Rattle.account.specs.State.{no_account, account, time_of}

@@ -7,28 +7,24 @@ use lib.Dec.{T, leb, eqb}
 use lib.Ieee.{Float, of_bits, of_int, round, neg, add, mul, le, lt}
 use Rattle.float.specs.Numbers.{f64, ◌⊕◌, ◌⊗◌, of_nat, f0}
 use Rattle.limits.specs.Values.{ok_db, ok_share}
-use Rattle.limits.specs.Readings.{Reading}
+use Rattle.limits.specs.Readings.{Reading, ok_snr, ok_limit}
 use Rattle.std.specs.Prelude.{None, Some}
 use Rattle.ladder.specs.declared.types.Table.{Table}
 use Rattle.ladder.specs.Types.{row, rung_at, places_of}
-use Rattle.limits.specs.Readings.{ok_snr, ok_limit}
 use Rattle.ladder.proofs.Cases.{pick}
 use Rattle.ladder.proofs.Entries.{All, all_set}
-use Rattle.account.specs.State.{Trying}
+use Rattle.account.specs.State.{Trying, wait_of, choice, with_time, with_wait, with_trying, with_place, with_snr, with_echo}
 use Rattle.account.specs.declared.types.Prices.{Prices}
 use Rattle.account.specs.declared.types.State.{State}
-use Rattle.account.specs.State.{wait_of, choice, with_time, with_wait, with_trying, with_place, with_snr, with_echo}
 use Rattle.account.specs.Price.{burst_or, full_air, wait_seconds}
-use Rattle.account.proofs.FullAir.{IsWait}
+use Rattle.account.proofs.FullAir.{IsWait, bursts_small}
 use Rattle.rules.specs.declared.types.Frame.{Frame}
 use Rattle.rules.specs.Lowest.{Best}
-use Rattle.rules.specs.Tries.{Decided}
+use Rattle.rules.specs.Tries.{Decided, better, judge_try, to_judge, judge_sent, judge_above, place_from, full_wait, won, end_try, own_frames, counted, begins, above, decide_try, decide_at, decide, choose}
 use Rattle.rules.specs.Echo.{out, usable, smooth_snr, smooth_echo, end_if_out, echoed, observe_echo, seed, seed_at, observe_snr}
 use Rattle.rules.specs.Booking.{booked}
-use Rattle.rules.specs.Tries.{better, judge_try, to_judge, judge_sent, judge_above, place_from, full_wait, won, end_try, own_frames, counted, begins, above, decide_try, decide_at, decide, choose}
 use Rattle.rules.specs.Transmission.{judged, inside, observe_frames}
 use Rattle.finite.proofs.Ranges.{Range, ◌to◌, In, ◌⊠◌, scaled, sums, products, scales, sum_in, product_in, scaled_in, counts}
-use Rattle.account.proofs.FullAir.{bursts_small}
 use Rattle.finite.proofs.Bounds.{decibels, air_times, shares, times, TableIn, TariffIn, tariff_sound, Held, all_any}
 use Rattle.finite.proofs.Booking.{FrameIn, zero_time, booked_in}
 

@@ -10,12 +10,11 @@ use Rattle.float.specs.Numbers.{◌⊕◌, ◌⊖◌, ◌⊗◌, of_nat, f0, f½
 use Rattle.float.proofs.Order.{number}
 use Rattle.float.proofs.Share.{Share}
 use Rattle.half.proofs.Range.{probability_share, from_share}
-use Rattle.limits.specs.Readings.{Reading}
+use Rattle.limits.specs.Readings.{Reading, ok_snr}
 use Rattle.std.specs.Prelude.{Option, None, Some}
 use Rattle.ladder.specs.declared.types.Row.{Row}
 use Rattle.ladder.specs.declared.types.Table.{Table}
 use Rattle.ladder.specs.Types.{row, rung_at, is_floor}
-use Rattle.limits.specs.Readings.{ok_snr}
 use Rattle.ladder.proofs.Cases.{pick, pick_by}
 use Rattle.ladder.proofs.Entries.{All}
 use Rattle.account.specs.declared.types.Account.{Account}

@@ -1,18 +1,15 @@
 -- What holds of every controller that calls can leave: each of its numbers is finite and lies within named bounds, and so does each value and price that it compares.
 -- So no comparison meets a NaN, and "v > b" of document 01 is the test "not v <= b" of the Rust. Definitions only.
-use Rattle.std.specs.Prelude.{◌≡◌, Bool, not, ◌&&◌, ◌||◌, List, ℕ, suc, ◌≤◌, T, ltb, Float}
+use Rattle.std.specs.Prelude.{◌≡◌, Bool, not, ◌&&◌, ◌||◌, List, ℕ, suc, ◌≤◌, T, ltb, Float, Ok, None, Some, Option}
 use Rattle.std.specs.Float.Ieee.{neg, le, lt}
 use Rattle.std.specs.Float.Ieee.Scale.{finite}
 use Rattle.float.specs.Numbers.{f64, within, f0, f1, f2, f5, f20}
 use Rattle.limits.specs.Values.{f200, f60, milli, ok_db}
-use Rattle.std.specs.Prelude.{Ok}
 use Rattle.limits.specs.Readings.{Reading}
-use Rattle.std.specs.Prelude.{None, Some}
 use Rattle.ladder.specs.declared.types.Table.{Table}
 use Rattle.ladder.specs.Tables.{prior_margin}
 use Rattle.ladder.specs.Types.{row, rung_at}
 use Rattle.account.specs.declared.types.Account.{Account}
-use Rattle.std.specs.Prelude.{Option, None, Some}
 use Rattle.account.specs.declared.types.Tariff.{Tariff}
 use Rattle.account.specs.declared.types.Prices.{Prices}
 use Rattle.account.specs.declared.types.State.{State}

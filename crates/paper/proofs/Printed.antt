@@ -5,11 +5,9 @@ use mathlib.Core.Path.{refl, sym, ap, ◌∙◌}
 use native.Mathlib.Omega.{arith}
 use borrow.Author.Tests.{le-leb}
 use lib.Dec.{leb→le}
-use Rattle.limits.specs.Refusals.{unless}
+use Rattle.limits.specs.Refusals.{unless, Verdict}
 use Rattle.limits.specs.declared.refusal.Refusal.{Refusal}
 use Rattle.limits.specs.declared.refusal.Refusal.TheVariants.{ColumnSize, ColumnsDiffer, TableValue, FloorCount, EmptyFront, UnknownRung, TooManyFrames, OutsideLimits, TooManyBursts, FileHeader, FilePairs, FileBody, SheetRoom, AnswerCount}
-use Rattle.limits.specs.Refusals.{Verdict}
-use Rattle.std.specs.Prelude.{Ok, Err}
 use Rattle.limits.proofs.Verdicts.{or_else_lem, unless_not}
 use Rattle.question.specs.File.{file_verdict}
 use Rattle.paper.specs.Lines.{digits, decimal, ended, row_of}

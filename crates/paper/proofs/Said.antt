@@ -1,7 +1,6 @@
 -- The sheet and the score by what is said of the events alone, and a walk over the lines, at i. Assumes nothing.
-use Rattle.std.specs.Prelude.{Ok, Err}
-use Rattle.std.specs.Prelude.{◌≡◌, ℕ, suc, ◌+◌, ◌<◌, ◌≤◌, Bool, true, false, cond, List, [], ◌∷◌, ◌++◌, length, get_or, drop, min, Ok, Err}
-use mathlib.Core.Path.{refl, ap}
+use Rattle.std.specs.Prelude.{Ok, Err, ◌≡◌, ℕ, suc, ◌+◌, ◌<◌, ◌≤◌, Bool, true, false, cond, List, [], ◌∷◌, ◌++◌, length, get_or, drop, min}
+use mathlib.Core.Path.{refl, ap, ◌∙◌}
 use native.Mathlib.Numerals.{add-one}
 use native.Mathlib.Omega.{arith}
 use lib.ListN.{drop_of_length-le}
@@ -12,8 +11,10 @@ use Rattle.limits.specs.Refusals.{Verdict}
 use Rattle.rate.specs.declared.types.RateController.{RateController}
 use Rattle.rate.specs.declared.types.Answer.{Answer}
 use Rattle.rate.specs.Calls.{Call, step}
+use Rattle.question.specs.File.{event_count}
 use Rattle.question.proofs.Over.{Next}
-use Rattle.paper.specs.Sheet.{Line, Score, calls_of, line_by, line_of, line_bytes, lines_from, sheet_of, scored_by, scored, score_from, score_of}
+use Rattle.question.proofs.Ranges.{length_tabulate}
+use Rattle.paper.specs.Sheet.{Line, Score, call_at, calls_of, line_by, line_of, line_bytes, lines_from, sheet_of, scored_by, scored, score_from, score_of}
 use Rattle.paper.specs.bridges.Said.{said_from, said, text_from, scored_line, score_lines}
 
 -- ---- the whole
@@ -43,6 +44,15 @@ score_lines_lem m k (c ∷ cs) (x ∷ xs) = rw (scored_line_lem m (step k c) x) 
 pub score_text : (s xs : List ℕ) → score_of s xs ≡ score_lines (record { right = 0; counted = 0 }) (said s) xs
 unfolding score_of said
 score_text s xs = score_lines_lem _ _ (calls_of s) xs
+
+said_from_length : (k : RateController) (cs : List Call) → length (said_from k cs) ≡ length cs
+unfolding said_from
+said_from_length k [] = refl
+said_from_length k (c ∷ cs) = ap suc (said_from_length (step k c).controller cs)
+
+pub said_length : (s : List ℕ) → length (said s) ≡ event_count s
+unfolding said calls_of
+said_length s = said_from_length _ (calls_of s) ∙ length_tabulate (event_count s) 0 (call_at s)
 
 -- ---- at i: the i-th line, with any default d
 score_none : (m : Score) (ls : List Line) → score_lines m ls [] ≡ m

@@ -1,9 +1,8 @@
 -- The sheet of a question file, as the list of its bytes, and its marking: what the two calls return and leave, refused or not. Definitions only.
 use Rattle.std.specs.Prelude.{ℕ, suc, ◌+◌, Bool, true, false, cond, List, [], ◌∷◌, ◌++◌, length, ◌==◌, nat_le, Option, None, Some, Result, Ok, Err}
-use Rattle.limits.specs.Refusals.{refusal_number, unless, or_else}
+use Rattle.limits.specs.Refusals.{refusal_number, unless, or_else, Verdict}
 use Rattle.limits.specs.declared.refusal.Refusal.{Refusal}
 use Rattle.limits.specs.declared.refusal.Refusal.TheVariants.{SheetRoom, AnswerCount}
-use Rattle.limits.specs.Refusals.{Verdict}
 use Rattle.ladder.specs.Lists.{tabulate}
 use Rattle.rules.specs.Echo.{refuses}
 use Rattle.rate.specs.declared.types.RateController.{RateController}

@@ -6,4 +6,5 @@ pub mod Bodies
 pub mod Pairs
 pub mod Events
 pub mod Held
+pub mod Readers
 mod Starting

@@ -1,8 +1,7 @@
 -- The two airs' tables are accepted, by computation. Assumes nothing.
-use Rattle.std.specs.Prelude.{◌≡◌}
+use Rattle.std.specs.Prelude.{◌≡◌, Ok}
 use mathlib.Core.Path.{refl}
 use lib.Ieee.{of_bits, of_int, neg, le, div, round}
-use Rattle.std.specs.Prelude.{Ok}
 use Rattle.ladder.specs.Front.{beaten, front_of}
 use Rattle.ladder.specs.Tables.{table_verdict, table_of, tabled}
 use Rattle.ladder.specs.Airs.{wide_air, narrow_air}

@@ -1,9 +1,8 @@
 -- "Little-endian": the numbers that stand at the start of a list of bytes, the lowest byte first. What stands further on is at the start of the list
 -- with the bytes before it dropped. A byte past the end reads as 0. Definitions only.
-use Rattle.std.specs.Prelude.{Bool, ◌&&◌, ◌||◌, cond, List, ℕ, ◌+◌, ◌*◌, ◌^◌, eqb, get_or, drop, Float}
+use Rattle.std.specs.Prelude.{Bool, ◌&&◌, ◌||◌, cond, List, ℕ, ◌+◌, ◌*◌, ◌^◌, eqb, get_or, drop, Float, None, Some}
 use Rattle.float.specs.Numbers.{f64}
 use Rattle.limits.specs.Readings.{Reading}
-use Rattle.std.specs.Prelude.{None, Some}
 
 abbrev pub byte : List ℕ → ℕ → ℕ
 byte s i = get_or s i 0

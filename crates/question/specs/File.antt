@@ -1,9 +1,8 @@
 -- A question file, as the list of its bytes: refusals 10, 11 and 12, and the body of each event. Definitions only.
 use Rattle.std.specs.Prelude.{Bool, ◌&&◌, ◌||◌, List, ℕ, zero, suc, ◌+◌, ◌-◌, ◌*◌, leb, eqb, length, drop, take}
 use Rattle.ladder.specs.Lists.{tabulate}
-use Rattle.limits.specs.Refusals.{unless, or_else}
+use Rattle.limits.specs.Refusals.{unless, or_else, Verdict}
 use Rattle.limits.specs.declared.refusal.Refusal.TheVariants.{FileHeader, FilePairs, FileBody}
-use Rattle.limits.specs.Refusals.{Verdict}
 use Rattle.question.specs.Bytes.{le32}
 use Rattle.question.specs.Body.{all_from, ok_body}
 

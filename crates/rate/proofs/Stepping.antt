@@ -1,10 +1,9 @@
 -- A call is refused and changes nothing, or it is accepted: what holds of both answers holds of the call's. Assumes nothing.
-use Rattle.std.specs.Prelude.{◌≡◌, ℕ, false}
+use Rattle.std.specs.Prelude.{◌≡◌, ℕ, false, Ok, Err}
 use mathlib.Core.Path.{refl, ap}
 use native.Mathlib.Omega.{arith}
 use Rattle.limits.specs.declared.refusal.Refusal.{Refusal}
 use Rattle.limits.specs.Refusals.{Verdict}
-use Rattle.std.specs.Prelude.{Ok, Err}
 use Rattle.rate.specs.Calls.{RateController, Answer, Call, Frames, Echo, Silence, Snr, Seed, Price, Family, verdict, accepted, refused, answered, step}
 
 pub accepted_says : (k : RateController) (c : Call) → (accepted k c).verdict ≡ Ok tt

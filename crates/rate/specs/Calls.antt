@@ -1,16 +1,11 @@
 -- The seven kinds of call that change a controller, which are refused (6 to 9), what each leaves and returns, and what a list of them leaves. Definitions only.
-use Rattle.std.specs.Prelude.{ℕ, Bool, false, not, ◌&&◌, ◌||◌, List, [], ◌∷◌, length, nat_le}
-use Rattle.std.specs.Prelude.{Float}
+use Rattle.std.specs.Prelude.{ℕ, Bool, false, not, ◌&&◌, ◌||◌, List, [], ◌∷◌, length, nat_le, Float, Ok, Err, Some}
 use Rattle.limits.specs.Values.{ok_db, ok_length, ok_burst}
-use Rattle.limits.specs.Refusals.{unless, or_else}
+use Rattle.limits.specs.Refusals.{unless, or_else, Verdict}
 use Rattle.limits.specs.declared.refusal.Refusal.TheVariants.{TooManyFrames, OutsideLimits, TooManyBursts}
-use Rattle.limits.specs.Refusals.{Verdict}
-use Rattle.std.specs.Prelude.{Ok, Err}
-use Rattle.limits.specs.Readings.{Reading}
+use Rattle.limits.specs.Readings.{Reading, ok_snr, ok_echo}
 use Rattle.ladder.specs.declared.types.Table.{Table}
 use Rattle.ladder.specs.Lists.{every, filled}
-use Rattle.limits.specs.Readings.{ok_snr, ok_echo}
-use Rattle.std.specs.Prelude.{Some}
 use Rattle.account.specs.declared.types.Tariff.{Tariff}
 use Rattle.account.specs.declared.types.Prices.{Prices}
 use Rattle.account.specs.declared.types.State.{State}

@@ -21,9 +21,7 @@ use Rattle.account.specs.declared.types.Core.{Core}
 use Rattle.account.specs.declared.types.Offsets.{Offsets}
 use Rattle.account.specs.declared.types.Prices.{Prices}
 use Rattle.account.specs.declared.types.State.{State}
-use Rattle.account.specs.State.{Trying}
-use Rattle.account.specs.State.{try_of}
-use Rattle.account.specs.State.{wait_of, with_time, with_wait}
+use Rattle.account.specs.State.{Trying, try_of, wait_of, with_time, with_wait}
 use Rattle.rules.specs.Lists.{some_of, how_many}
 use Rattle.rules.specs.Echo.{observe_snr}
 use Rattle.rules.specs.Booking.{Frame, at, offsets_at, offsets_after, ofdm, judge_family, airs, sent, clean_mark, booked}

@@ -18,11 +18,10 @@ use Rattle.ladder.specs.declared.types.Table.{Table}
 use Rattle.ladder.specs.Types.{rung_at, places_of}
 use Rattle.ladder.proofs.Cases.{pick, pick_by, yes_of, of_no, or_here, or_left, and_rest}
 use Rattle.ladder.proofs.TableSound.{TableSound}
-use Rattle.account.specs.State.{Trying}
+use Rattle.account.specs.State.{Trying, time_of, wait_of, choice, with_place}
 use Rattle.std.specs.Prelude.{None, Some}
 use Rattle.account.specs.declared.types.Prices.{Prices}
 use Rattle.account.specs.declared.types.State.{State}
-use Rattle.account.specs.State.{time_of, wait_of, choice, with_place}
 use Rattle.account.specs.Price.{estimate_at, value, lossless_price, wait_seconds}
 use Rattle.rules.specs.Lowest.{Best}
 use Rattle.rules.specs.Echo.{out, usable, observe_snr}

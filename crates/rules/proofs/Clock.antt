@@ -17,10 +17,9 @@ use Rattle.ladder.specs.Types.{rung_at, rungs_of, places_of}
 use Rattle.ladder.proofs.Cases.{pick, pick_by, yes_of}
 use Rattle.ladder.proofs.Entries.{All, all_get, all_set}
 use Rattle.ladder.proofs.TableSound.{TableSound}
-use Rattle.account.specs.State.{Trying}
+use Rattle.account.specs.State.{Trying, time_of, wait_of, choice, with_time, with_wait, with_trying, with_place, with_echo}
 use Rattle.account.specs.declared.types.Prices.{Prices}
 use Rattle.account.specs.declared.types.State.{State}
-use Rattle.account.specs.State.{time_of, wait_of, choice, with_time, with_wait, with_trying, with_place, with_echo}
 use Rattle.account.specs.Price.{wait_seconds}
 use Rattle.account.proofs.FullAir.{TariffSound, IsWait, seconds_natural}
 use Rattle.rules.specs.Lowest.{Best}

@@ -7,8 +7,7 @@ use native.Mathlib.Omega.{arith}
 use native.Mathlib.Decide.{dec_lt}
 use lib.ListN.{length}
 use borrow.Author.Tests.{lt-ltb, le-ltb}
-use Rattle.limits.specs.Refusals.{or_else}
-use Rattle.limits.specs.Refusals.{Verdict}
+use Rattle.limits.specs.Refusals.{or_else, Verdict}
 use Rattle.std.specs.Prelude.{Ok, Err}
 use Rattle.ladder.specs.declared.types.Table.{Table}
 use Rattle.ladder.specs.Types.{rungs_of}

@@ -16,11 +16,9 @@ use Rattle.std.specs.Prelude.{None, Some}
 use Rattle.ladder.specs.declared.types.Table.{Table}
 use Rattle.ladder.specs.Types.{rung, places_of}
 use Rattle.ladder.proofs.Cases.{pick, pick_by, or_right}
-use Rattle.account.specs.State.{Trying}
-use Rattle.account.specs.State.{try_of}
+use Rattle.account.specs.State.{Trying, try_of, runs, choice, with_trying, with_place, with_echo}
 use Rattle.account.specs.declared.types.Prices.{Prices}
 use Rattle.account.specs.declared.types.State.{State}
-use Rattle.account.specs.State.{runs, choice, with_trying, with_place, with_echo}
 use Rattle.rules.specs.Lowest.{Best}
 use Rattle.rules.specs.Echo.{out, usable, end_if_out, down_if_out, echoed, smooth_echo, observe_echo, seed, seed_at, observe_snr}
 use Rattle.rules.specs.Booking.{Frame, booked}

@@ -1,19 +1,17 @@
 -- "A transmission", what the frames move by themselves: offsets, accounts, marks and times. Definitions only.
-use Rattle.std.specs.Prelude.{Bool, not, ◌&&◌, ◌||◌, cond, List, [], ◌∷◌, map, ℕ, zero, suc, eqb, Float, get_or, set}
+use Rattle.std.specs.Prelude.{Bool, not, ◌&&◌, ◌||◌, cond, List, [], ◌∷◌, map, ℕ, zero, suc, eqb, Float, get_or, set, None, Some}
 use Rattle.std.specs.Float.Ieee.{neg, lt}
 use Rattle.float.specs.Numbers.{f64, ◌⊕◌, ◌⊖◌, ◌⊗◌, ◌⊘◌, of_nat, f0, f1, f5, f20}
 use Rattle.float.specs.Sum.{total}
 use Rattle.half.specs.Power.{half}
 use Rattle.limits.specs.Readings.{Reading}
-use Rattle.std.specs.Prelude.{None, Some}
 use Rattle.ladder.specs.declared.types.Table.{Table}
 use Rattle.ladder.specs.Lists.{every}
 use Rattle.ladder.specs.Types.{rung, row, rung_at, rungs_of, places_of, is_floor}
 use Rattle.account.specs.declared.types.Account.{Account}
-use Rattle.account.specs.State.{Mark}
+use Rattle.account.specs.State.{Mark, no_account, choice}
 use Rattle.account.specs.declared.types.Offsets.{Offsets}
 use Rattle.account.specs.declared.types.State.{State}
-use Rattle.account.specs.State.{no_account, choice}
 use Rattle.account.specs.Price.{chance}
 use Rattle.rules.specs.Lists.{some_of}
 pub use Rattle.rules.specs.declared.types.Frame.{Frame}

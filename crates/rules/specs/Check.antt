@@ -1,10 +1,8 @@
 -- Which frames are refused (6 and 8). Definitions only.
-use Rattle.std.specs.Prelude.{◌&&◌, List, [], ◌∷◌}
+use Rattle.std.specs.Prelude.{◌&&◌, List, [], ◌∷◌, Ok}
 use Rattle.limits.specs.Values.{ok_air, ok_bytes}
-use Rattle.limits.specs.Refusals.{unless, or_else}
+use Rattle.limits.specs.Refusals.{unless, or_else, Verdict}
 use Rattle.limits.specs.declared.refusal.Refusal.TheVariants.{UnknownRung, OutsideLimits}
-use Rattle.limits.specs.Refusals.{Verdict}
-use Rattle.std.specs.Prelude.{Ok}
 use Rattle.ladder.specs.declared.types.Table.{Table}
 use Rattle.ladder.specs.Types.{in_table}
 use Rattle.rules.specs.Booking.{Frame}

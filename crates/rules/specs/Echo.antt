@@ -1,16 +1,14 @@
 -- "Echo and silence". Definitions only.
-use Rattle.std.specs.Prelude.{Bool, false, not, ◌&&◌, ◌||◌, cond, ℕ, zero, suc, ◌-◌, ltb, Float}
+use Rattle.std.specs.Prelude.{Bool, false, not, ◌&&◌, ◌||◌, cond, ℕ, zero, suc, ◌-◌, ltb, Float, None, Some}
 use Rattle.std.specs.Float.Ieee.{neg, lt}
 use Rattle.float.specs.Numbers.{f64, ◌⊕◌, ◌⊗◌}
 use Rattle.limits.specs.Readings.{Reading}
-use Rattle.std.specs.Prelude.{None, Some}
 use Rattle.ladder.specs.declared.types.Table.{Table}
 use Rattle.ladder.specs.Lists.{some_from}
 use Rattle.ladder.specs.Types.{row, rung_at, places_of, is_floor}
-use Rattle.account.specs.State.{Trying}
+use Rattle.account.specs.State.{Trying, choice, with_trying, with_snr, with_echo, with_place}
 use Rattle.account.specs.declared.types.Prices.{Prices}
 use Rattle.account.specs.declared.types.State.{State}
-use Rattle.account.specs.State.{choice, with_trying, with_snr, with_echo, with_place}
 use Rattle.account.specs.Price.{estimate_at, priced, value}
 use Rattle.rules.specs.Lowest.{greatest, best_place}
 

@@ -1,17 +1,13 @@
 -- "A transmission", what is decided then: rungs judged, the running try, and `decide`. Definitions only.
-use Rattle.std.specs.Prelude.{Bool, true, false, not, ◌&&◌, ◌||◌, cond, List, ℕ, zero, suc, ◌+◌, ◌*◌, min, leb, ltb, eqb, Float}
+use Rattle.std.specs.Prelude.{Bool, true, false, not, ◌&&◌, ◌||◌, cond, List, ℕ, zero, suc, ◌+◌, ◌*◌, min, leb, ltb, eqb, Float, None, Some}
 use Rattle.std.specs.Bool.{beq}
 use Rattle.std.specs.Float.Ieee.{le, lt}
 use Rattle.float.specs.Numbers.{f64, ◌⊖◌, f0, f2}
 use Rattle.ladder.specs.declared.types.Table.{Table}
 use Rattle.ladder.specs.Types.{rung, rung_at, places_of, is_floor}
-use Rattle.account.specs.State.{Trying}
-use Rattle.std.specs.Prelude.{None, Some}
-use Rattle.account.specs.State.{try_of}
-use Rattle.account.specs.State.{Mark}
+use Rattle.account.specs.State.{Trying, try_of, Mark, account, time_of, wait_of, choice, with_time, with_wait, with_trying, with_place}
 use Rattle.account.specs.declared.types.Prices.{Prices}
 use Rattle.account.specs.declared.types.State.{State}
-use Rattle.account.specs.State.{account, time_of, wait_of, choice, with_time, with_wait, with_trying, with_place}
 use Rattle.account.specs.Price.{value, lossless_price, wait_seconds}
 use Rattle.rules.specs.Lists.{how_many}
 use Rattle.rules.specs.Echo.{usable}

@@ -1,5 +1,5 @@
 -- The value found with the best place is the choice's, once that place is taken: no value looks at the place. Assumes nothing.
-use Rattle.std.specs.Prelude.{◌≡◌, Float}
+use Rattle.std.specs.Prelude.{◌≡◌, Float, None}
 use mathlib.Core.Path.{subst}
 use Rattle.ladder.specs.declared.types.Place.{Place}
 use Rattle.ladder.specs.declared.types.Table.{Table}
@@ -8,7 +8,6 @@ use Rattle.account.specs.declared.types.Prices.{Prices}
 use Rattle.account.specs.declared.types.State.{State}
 use Rattle.account.specs.State.{choice, with_place}
 use Rattle.account.specs.Price.{value, estimate_at}
-use Rattle.std.specs.Prelude.{None}
 use Rattle.rules.specs.Lowest.{found}
 use Rattle.rules.specs.Tries.{candidate, choose}
 use Rattle.rules.proofs.Greatest.{worth, Valued, keeps}

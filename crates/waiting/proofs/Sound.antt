@@ -15,11 +15,10 @@ use Rattle.limits.specs.Values.{ok_air, ok_length, ok_bytes, ok_burst}
 use Rattle.limits.specs.Refusals.{unless, or_else}
 use Rattle.limits.specs.declared.refusal.Refusal.TheVariants.{UnknownRung, TooManyFrames, OutsideLimits, TooManyBursts}
 use Rattle.std.specs.Prelude.{Ok}
-use Rattle.limits.specs.Readings.{Reading}
+use Rattle.limits.specs.Readings.{Reading, ok_snr}
 use Rattle.ladder.specs.declared.types.Table.{Table}
 use Rattle.ladder.specs.Lists.{every, filled}
 use Rattle.ladder.specs.Types.{in_table}
-use Rattle.limits.specs.Readings.{ok_snr}
 use Rattle.ladder.proofs.Entries.{all_replicate, every_get}
 use Rattle.limits.proofs.Verdicts.{or_else_lem, unless_not}
 use Rattle.ladder.proofs.TableSound.{TableSound, made_sound}

@@ -11,14 +11,11 @@ use Rattle.limits.specs.Refusals.{Verdict}
 use Rattle.ladder.specs.declared.types.Rung.{Rung}
 use Rattle.limits.specs.Readings.{Reading}
 use Rattle.ladder.proofs.Cases.{or_here, or_there}
-use Rattle.account.specs.State.{Trying}
+use Rattle.account.specs.State.{Trying, try_of, runs}
 use Rattle.std.specs.Prelude.{None, Some}
-use Rattle.account.specs.State.{try_of}
-use Rattle.account.specs.State.{runs}
 use Rattle.rules.specs.declared.types.Frame.{Frame}
-use Rattle.rules.specs.Tries.{Decided}
+use Rattle.rules.specs.Tries.{Decided, decide}
 use Rattle.rules.specs.Echo.{observe_echo, silent, seed}
-use Rattle.rules.specs.Tries.{decide}
 use Rattle.rules.specs.Transmission.{inside, observe_frames}
 use Rattle.rules.proofs.Trying.{Goes, Off, echo_rests, seed_keeps_try, frames_idle, frames_running, decide_begun}
 use Rattle.rate.specs.declared.types.RateController.{RateController}

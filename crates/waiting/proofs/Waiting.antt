@@ -15,12 +15,11 @@ use Rattle.float.specs.Sum.{total}
 use Rattle.float.proofs.Monotone.{natural}
 use Rattle.float.proofs.Sum.{Naturals}
 use Rattle.limits.specs.Refusals.{Verdict}
-use Rattle.std.specs.Prelude.{Ok}
+use Rattle.std.specs.Prelude.{Ok, Option}
 use Rattle.limits.specs.Readings.{Reading}
 use Rattle.ladder.specs.declared.types.Table.{Table}
 use Rattle.ladder.specs.Types.{rung_at, rungs_of, places_of}
 use Rattle.ladder.proofs.Cases.{yes_of}
-use Rattle.std.specs.Prelude.{Option}
 use Rattle.account.specs.declared.types.Tariff.{Tariff}
 use Rattle.account.specs.declared.types.State.{State}
 use Rattle.account.specs.State.{runs, time_of, wait_of}

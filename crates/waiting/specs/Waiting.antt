@@ -1,16 +1,13 @@
 -- Demand 3 and document 01's "The waiting statement": "one claim about the whole list, not one for each call". The words of a clause stand above what says it;
 -- "choice, echo, values and the prices set are those that the steps above give for the list so far", so all is read off `step` and `after`. Definitions only.
-use Rattle.std.specs.Prelude.{◌≡◌, Bool, true, false, not, ◌&&◌, ◌||◌, cond, List, [], ◌∷◌, ◌++◌, ℕ, suc, ◌≤◌, T, Float}
+use Rattle.std.specs.Prelude.{◌≡◌, Bool, true, false, not, ◌&&◌, ◌||◌, cond, List, [], ◌∷◌, ◌++◌, ℕ, suc, ◌≤◌, T, Float, Ok, Err, None, Option}
 use Rattle.std.specs.Float.Ieee.{lt}
 use Rattle.float.specs.Numbers.{f64, ◌⊖◌, ◌⊗◌, f0}
 use Rattle.float.specs.Sum.{total}
 use Rattle.limits.specs.Refusals.{Verdict}
-use Rattle.std.specs.Prelude.{Ok, Err}
 use Rattle.limits.specs.Readings.{Reading}
-use Rattle.std.specs.Prelude.{None}
 use Rattle.ladder.specs.Types.{rung_at}
 use Rattle.ladder.specs.Tables.{Columns, table_verdict, table_of, for_air}
-use Rattle.std.specs.Prelude.{Option}
 use Rattle.account.specs.declared.types.Tariff.{Tariff}
 use Rattle.account.specs.declared.types.State.{State}
 use Rattle.account.specs.State.{runs}

@@ -1,11 +1,9 @@
 -- Which frames are refused, in one pass: its verdict is the first bad frame's, and its count the length, up to 257 (proofs/FirstBad.antt). Definitions only.
-use Rattle.std.specs.Prelude.{◌&&◌, cond, ℕ, suc, min, ltb}
+use Rattle.std.specs.Prelude.{◌&&◌, cond, ℕ, suc, min, ltb, Ok}
 use mathlib.Core.List.{List, foldl}
 use Rattle.limits.specs.Values.{ok_air, ok_bytes}
-use Rattle.limits.specs.Refusals.{unless, or_else}
+use Rattle.limits.specs.Refusals.{unless, or_else, Verdict}
 use Rattle.limits.specs.declared.refusal.Refusal.TheVariants.{UnknownRung, OutsideLimits}
-use Rattle.limits.specs.Refusals.{Verdict}
-use Rattle.std.specs.Prelude.{Ok}
 use Rattle.ladder.specs.declared.types.Air.{Air}
 use Rattle.rules.specs.Booking.{Frame}
 pub use Rattle.rules.specs.declared.check.Check.{Check}

@@ -1,21 +1,19 @@
 -- A transmission in one pass: what a pass over the frames gathers, and what one frame does to it and to the accounts. The folds of Booking.antt and Tries.antt are what is
 -- right: proofs/Booked.antt shows that this one pass gives them all. Definitions only.
-use Rattle.std.specs.Prelude.{◌≡◌, Bool, true, false, not, ◌&&◌, ◌||◌, cond, ℕ, suc, ◌<◌, ◌^◌, ltb, T, List, Float, replicate, slice_index_or}
+use Rattle.std.specs.Prelude.{◌≡◌, Bool, true, false, not, ◌&&◌, ◌||◌, cond, ℕ, suc, ◌<◌, ◌^◌, ltb, T, List, Float, replicate, slice_index_or, None, Some}
 use mathlib.Core.List.{foldl}
 use Rattle.std.specs.Int.Bits.{bit_or}
 use Rattle.std.specs.Float.Ieee.{lt, eq}
 use Rattle.float.specs.Numbers.{◌⊕◌, ◌⊗◌, ◌⊘◌, f0, f1}
 use Rattle.half.specs.Power.{half}
 use Rattle.limits.specs.Readings.{Reading}
-use Rattle.std.specs.Prelude.{None, Some}
 use Rattle.ladder.specs.declared.types.Rung.{Rung}
 use Rattle.ladder.specs.declared.types.Table.{Table}
 use Rattle.ladder.specs.Types.{rung, row, rung_at, rungs_of, places_of, is_floor}
-use Rattle.account.specs.State.{Mark}
+use Rattle.account.specs.State.{Mark, Trying}
 use Rattle.account.specs.declared.types.Offsets.{Offsets}
 use Rattle.account.specs.declared.types.Prices.{Prices}
 use Rattle.account.specs.declared.types.State.{State}
-use Rattle.account.specs.State.{Trying}
 use Rattle.account.specs.declared.types.Core.{Core}
 use Rattle.rules.specs.Booking.{Frame, at, f12, offset_step, book, passed}
 use Rattle.rules.specs.Tries.{Decided, counted, decide}

@@ -1,12 +1,9 @@
 -- A walk over places: its start, one place more, which is allowed and beaten or not allowed, and its end.
 use Rattle.std.proofs.Common.{arith, ◌≡◌, ◌<◌, ℕ, Bool, true, false, cond}
 use mathlib.Core.Path.{refl, ◌∙◌}
-use Rattle.std.specs.Prelude.{Float}
+use Rattle.std.specs.Prelude.{Float, None}
 use Rattle.ladder.specs.Types.{place, places_of}
-use Rattle.rules.specs.Lowest.{Best}
-use Rattle.std.specs.Prelude.{None}
-use Rattle.rules.specs.Lowest.{found}
-use Rattle.rules.specs.Lowest.{beats, improved}
+use Rattle.rules.specs.Lowest.{Best, found, beats, improved}
 use Rattle.rules.specs.Tries.{candidate, choose}
 use Rattle.rules.proofs.Greatest.{worth, start, turn, done}
 use Rattle.steps.proofs.decide.choose_place.Goals as goal

@@ -2,9 +2,8 @@
 use Rattle.std.proofs.Common.{◌≡◌, ◌-◌, ℕ, Bool, not, ◌&&◌}
 use Rattle.ladder.specs.declared.types.Table.{Table}
 use Rattle.account.specs.declared.types.State.{State}
-use Rattle.ladder.specs.Types.{rung_at}
+use Rattle.ladder.specs.Types.{rung_at, places_of}
 use Rattle.ladder.specs.Lists.{some_from}
-use Rattle.ladder.specs.Types.{places_of}
 use Rattle.rules.specs.Echo.{ofdm_at, out}
 use Rattle.steps.proofs.echo.has_ofdm_in.Given as goal
 
