@@ -63,7 +63,8 @@ pub fn lossless(t: &Table, r: Rung) -> f64
 
 // ---- price
 impl Tariff {
-    // A rung's burst count, if it is given.
+    // A rung's burst count, if it is given. (`counted` is a count and no rung, so the number is held against it. A slice of the first `counted` would have
+    // none, where a rung under `counted` and past the array has 0.)
     fn burst(&self, r: Rung) -> Option<u32>
         ensures { result ≡ burst self.now r.0 }
     {

@@ -63,6 +63,8 @@ pub struct Core {
 }
 
 // What the calls move. By rung: accounts, seconds of air since its last try, and its wait in full transmissions; and all that is no array.
+// (An array each, and not one of structs: a frame is booked on the accounts alone, `book_accounts`, and air passes in the times alone, `pass_times`. Each
+// is lent its one array, and so need promise nothing of the others.)
 #[derive(Clone, Copy, PartialEq, Debug)]
 pub struct State {
     pub accounts: [Account; 32],

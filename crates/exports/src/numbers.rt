@@ -20,7 +20,7 @@ pub extern "C" fn rate_exp(y: f64) -> f64
     half::logistic::exp(y)
 }
 
-// 0, and the probability in p; or minus the refusal's number, and p is left as it was.
+// 0, and the probability in p; or minus the refusal's number, and p is left as it was. (Its parameters are as turmexol.h declares them.)
 #[unsafe(no_mangle)]
 pub extern "C" fn rate_decode_probability(
     snr_db: f64,

@@ -1,4 +1,5 @@
-// How a call tells C of a refusal: 0 or more where it is accepted, minus the paper's number where it is refused.
+// How a call tells C of a refusal: 0 or more where it is accepted, minus the paper's number where it is refused. (C has no Result: turmexol.h declares an
+// int64_t, which the two functions below make.)
 ghost use Rattle.std.specs.Prelude.{◌≡◌, pos, neg_ℤ};
 ghost use Rattle.exports.specs.Status.{minus_number};
 

@@ -18,6 +18,7 @@ fn numbers_of(rungs: &[Rung; 32]) -> [u32; 32]
 }
 
 // The number of rungs on the front, which stand in the first entries of out; or minus the refusal's number, and out is left as it was.
+// (Its parameters are as turmexol.h declares them: each column is a pointer and a length.)
 #[unsafe(no_mangle)]
 pub extern "C" fn rate_usable_modes(
     thresholds: &[f64],
@@ -55,6 +56,8 @@ fn readings_of(known: &[u8], limits: &[f64]) -> [Reading; 33]
 }
 
 // What `for_table` says of these columns: 0, or minus the refusal's number. Entry i of the echo column is missing where known[i] is 0, else limits[i].
+// (As turmexol.h declares it. C has no Option and no Result: a column is a pointer and a length, a reading a byte and a number in two of them, and the verdict
+// a number.)
 #[unsafe(no_mangle)]
 pub extern "C" fn rate_table_refusal(
     thresholds: &[f64],

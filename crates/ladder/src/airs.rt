@@ -9,6 +9,9 @@ use crate::types::Table;
 use limits::reading::Reading;
 use limits::refusal::Refusal;
 
+// (A constant for each column, by the source's name for it: `Columns`, `usable_modes_by_rate` and the calls for C take slices of one column each, which an
+// array of rows could not lend.)
+
 // ---- wide, 2 300 Hz: rungs 0 to 5 are the tone floor, 6 to 19 the OFDM modes 0 to 13
 // The SNR in 3 kHz at which a rung loses one frame in ten with noise alone (AWGN). The floor's were measured by the source's tools/bench_tone.py
 // (bench/baselines/tone_floor.csv), at the OFDM frames' peak power; the OFDM rungs' by bench_phy.py (phy_fer_awgn14.csv).
@@ -100,7 +103,7 @@ pub const NARROW_FRAME_S: [f64; 15] = [
     1.054,
 ];
 
-// ---- control frames: the controller reads none of these; the link engine does
+// ---- control frames: the controller reads none of these; the link engine does. (By the source's names, two numbers an air, as it has them.)
 // The tone floor's control frame loses one in ten here, on both airs (tone_floor.csv).
 pub const TONE_CONTROL_THRESHOLD_DB: f64 = -19.5;
 

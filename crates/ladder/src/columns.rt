@@ -28,6 +28,7 @@ pub(crate) fn ok_size(n: usize) -> bool
     (1..=32).contains(&n)
 }
 
+// (The walk of the next four is the library's `all`, once for any type and test. Each names the test of its column; front.rt asks for three of them too.)
 // A column of values in dB.
 pub(crate) fn all_db(column: &[f64]) -> bool
     ensures { result ≡ every ok_db column.now }

@@ -13,6 +13,9 @@ use std::array;
 // What a DATA frame's header takes of its payload, in bytes: `DATA_HEADER` of the source's frames.rs.
 pub const DATA_HEADER: u32 = 3;
 
+// (The functions below take the two or three columns that a front is made of. A `Columns` holds capacities, limits and a floor count too, which callers of
+// `usable_modes_by_rate`, as C's `rate_usable_modes`, do not have.)
+
 // The data bytes of a frame.
 fn data_of(payload: u32) -> u32
     ensures { result ≡ data_of payload }
@@ -27,7 +30,8 @@ fn worth(payload: u32, time: f64) -> f64
     data_of(payload) as f64 / time
 }
 
-// The worth of rung `m`, and 0.0 past the last rung.
+// The worth of rung `m`, and 0.0 past the last rung. (One test is for both columns, which have one length. With `get` it would be a match on two Options,
+// with a case, one there and the other not, that does not occur.)
 fn worth_at(payload: &[u32], frame_s: &[f64], m: usize) -> f64
     requires { length payload.now ≡ length frame_s.now }
     ensures { result ≡ worth_at payload.now frame_s.now m }
@@ -66,7 +70,8 @@ fn is_beaten(thresholds: &[f64], worths: &[f64], m: usize) -> bool
     (0..thresholds.len()).any(|other| beats(thresholds, worths, m, other))
 }
 
-// The rungs that no other beats, ascending.
+// The rungs that no other beats, ascending. (`m` is the rung's number, and no index of one slice. There is no heap, so a `filter` could not be
+// collected, and would fill this array by this count too.)
 pub(crate) fn front_of(thresholds: &[f64], payload: &[u32], frame_s: &[f64]) -> Front
     requires one_length { OneLength thresholds.now payload.now frame_s.now }
     requires thresholds_len_bound { length thresholds.now ≤ 32 }

@@ -19,7 +19,7 @@ pub const WIDE_PRIOR_MARGIN_DB: f64 = 1.0;
 
 pub const WIDE_FAMILY_GAIN_DB: f64 = 1.0;
 
-// A table of its parts, with the settings that any air starts from.
+// A table of its parts, with the settings that any air starts from. (No heap: the rows are an array of as many as there may be, and `count` are in use.)
 fn table_from(rows: [Row; 32], count: u32, floors: u32, offered: Front) -> Table
     ensures { result ≡ table_from rows count floors offered }
 {
@@ -61,6 +61,8 @@ pub fn table_for(c: &Columns) -> Result<Table, Refusal>
 }
 
 // The small facts with their air's settings of the prior: on the narrow air they stay.
+// (`wide` is a bool here and in `for_air`, as in document 01, which calls `for_air(true)`, and in its definition. With an enum of the airs each contract would
+// have to turn it into that bool. The `if` is between two values; a closure for each would be no plainer.)
 fn air_for(a: Air, wide: bool) -> Air
     ensures { result ≡ air_for a wide }
 {

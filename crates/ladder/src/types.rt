@@ -30,7 +30,7 @@ impl Row {
     };
 }
 
-// A front: the rungs of the first `count` entries, from the lowest to the highest.
+// A front: the rungs of the first `count` entries, from the lowest to the highest. (No heap: an array of as many as there may be, and how many there are.)
 #[derive(Clone, Copy, PartialEq, Eq, Debug)]
 pub struct Front {
     pub rungs: [Rung; 32],
@@ -48,6 +48,7 @@ impl Front {
 
 // The small facts of an air's table: how many rows are in use, how many of the rungs, the first ones, are floor, and how many places the front has.
 // `margin` and `gain` are the settings of the prior: how far under the reading it is read, and how far a frame moves its family's offset.
+// (No heap: `count` and `places` say how much is in use of the table's two arrays.)
 #[derive(Clone, Copy, PartialEq, Debug)]
 pub struct Air {
     pub count: u32,
@@ -103,6 +104,7 @@ impl Table {
         &self.front[..self.places() as usize]
     }
 
+    // (The next two hold a rung's number against a count: `r < Rung(self.rungs())` would make a rung of the count, and be no shorter.)
     // Whether a rung is in the table.
     pub fn has(&self, r: Rung) -> bool
         ensures { result ≡ in_table self.now r.0 }

@@ -22,6 +22,7 @@ pub fn ok_snr(x: Reading) -> bool
 }
 
 // Whether an echo reading is within its limits; of a missing share the SNR is not looked at.
+// (The two are the arguments of the source's `observe_echo`: a struct of them would be made of those, to be taken apart here.)
 pub fn ok_echo(share: Reading, snr_db: f64) -> bool
     ensures { result ≡ ok_echo share snr_db }
 {

@@ -3,13 +3,16 @@ ghost use Rattle.std.specs.Prelude.{◌≡◌};
 ghost use Rattle.float.specs.Numbers.{within};
 ghost use Rattle.limits.specs.Values.{ok_db, ok_slope, ok_air, ok_length, ok_bytes, ok_burst, ok_share};
 
-// (A range's `contains` goes by `partial_cmp`, which compiles to a third comparison.)
+// Whether `x` is within two ends. (`(lo..=hi).contains(&x)` is no plainer than the two comparisons. It goes by `partial_cmp`, which compiles to a third.)
 fn is_within(lo: f64, hi: f64, x: f64) -> bool
     ensures { result ≡ within lo hi x }
 {
     lo <= x && x <= hi
 }
 
+// ---- each kind of value
+// (`is_within` is what the next four and `ok_share` have in common. What is left to each is its ends, and the name by which a test is handed on, as in
+// `all(ok_db)`: a generic one would have each caller name the ends. Of the two counts each is one comparison.)
 // A value in dB.
 pub fn ok_db(x: f64) -> bool
     ensures { result ≡ ok_db x }

@@ -15,7 +15,7 @@ const LINE: usize = 53;
 // The most bytes of an input that are read.
 const ROOM: u64 = 65536;
 
-// The value of a hexadecimal digit; 0 for any other byte.
+// The value of a hexadecimal digit; 0 for any other byte. (`to_digit` takes capitals too, which are other bytes here.)
 fn digit(b: u8) -> u64 {
     match b {
         b'0'..=b'9' => u64::from(b - b'0'),
@@ -29,12 +29,13 @@ fn float(digits: &[u8]) -> f64 {
     float_of(digits.iter().fold(0, |bits, &b| bits << 4 | digit(b)))
 }
 
-// Writes an answer's line.
+// Writes an answer's line. (Its kind is written as the byte that was read: `{}` would write a u8's number, and of a char over 127 two bytes.)
 fn put(rt: &impl Print, kind: u8, bits: u64) -> io::Result<()> {
     rt.write_all(&[kind, b' '])?;
     println!(rt; "{bits:016x}")
 }
 
+// Answers a call. (The arms take one or three arguments, and only the last can be refused: closures for them, chosen by letter, would need this match too.)
 fn answer(rt: &impl Print, line: &[u8; LINE]) -> io::Result<()> {
     let kind = line[0];
     let x = float(&line[2..18]);
