@@ -1,4 +1,7 @@
 // The calls that change a controller, by value: each is the call in place, on the controller that was handed over.
+// (Document 01 asks for them by value. One front for all, which took the call in place as a closure, would have in its contract what the closure promises, to spare two lines a
+// call. The parameters are those of the source's calls, here, in moves.rt and in player.rt: share and SNR, frames and SNR, the lengths and the gap. A struct of them would be
+// made for one call and taken apart in it.)
 ghost use Rattle.std.specs.Prelude.{◌≡◌, [], ◌∷◌};
 ghost use Rattle.rate.specs.Calls.{step, Snr, Silence, Seed, Echo, Family, Frames, Price};
 ghost use Rattle.rate.specs.bridges.Replies.{answer_of};
@@ -33,6 +36,7 @@ impl RateController {
     }
 
     // A burst's counts: only its SNR is read. Refused: 8.
+    // (The source has this call beside `observe_snr`, so both names stay.)
     pub fn observe(self, snr: Reading) -> Answer
         ensures { result ≡ step self (Snr snr) }
     {

@@ -32,6 +32,7 @@ impl RateController {
     }
 
     // The same controller with the settings of its air.
+    // (The bool is document 01's own: `for_air(true)`.)
     #[tactic(auto, unfolding(crate::specs::Reads::for_air_of))]
     pub fn for_air(self, wide: bool) -> RateController
         ensures { result ≡ for_air_of self wide }

@@ -1,4 +1,5 @@
 // The calls that change a controller, in place. Each promises `step` of specs/Calls.antt, which the waiting theorem speaks of.
+// (The parameters are the source's: see calls.rt.)
 ghost use Rattle.std.specs.Prelude.{◌≡◌, ◌≤◌, ◌&&◌, length};
 ghost use Rattle.limits.specs.Refusals.{unless};
 ghost use Rattle.limits.specs.Values.{ok_length, ok_burst};
@@ -92,6 +93,8 @@ pub fn observe_echo(k: &mut RateController, share: Reading, snr_db: f64) -> Repl
 }
 
 // ---- frames
+// (`Kept` stands in the contracts of two functions, since the factors are lent beside the controller: a call by value has its own, and a `Player`, whose invariant it is, keeps
+// them.)
 // The whole call: 7 first, then the first bad frame, then the SNR.
 #[tactic(auto, unfolding(crate::specs::bridges::Replies::frames_verdict))]
 fn frames_verdict(v: Check, snr: Reading) -> Verdict
@@ -150,6 +153,7 @@ pub fn set_families(k: &mut RateController, own_floor: bool, other_floor: bool) 
 }
 
 // Whether the two control lengths and the gap are within their limits.
+// (Three numbers, here and in `tariff_of`: a struct of them would be taken apart at once, into the fields of the `Tariff`.)
 pub fn ok_lengths(floor: f64, ordinary: f64, gap: f64) -> bool
     ensures { result ≡ (ok_length floor && ok_length ordinary && ok_length gap) }
 {

@@ -1,4 +1,5 @@
 // A controller that is played in place, call after call: the ageing factors of the last frame's air are kept beside it for the next.
+// (The parameters are the source's: see calls.rt.)
 ghost use Rattle.std.specs.Prelude.{◌≡◌};
 ghost use Rattle.rate.specs.Calls.{step, Snr, Silence, Seed, Echo, Family, Frames, Price};
 ghost use Rattle.rate.specs.bridges.Replies.{answer_of};

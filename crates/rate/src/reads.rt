@@ -26,6 +26,7 @@ impl RateController {
     }
 
     // What the rungs are ranked by. Refused: 6.
+    // (This and `estimate` share the test of the rung: one for both would take the price as a closure.)
     #[tactic(auto, unfolding(crate::specs::Reads::value_of))]
     pub fn value(&self, mode: Rung) -> Result<f64, Refusal>
         ensures { result ≡ value_of self.now mode.0 }

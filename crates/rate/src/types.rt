@@ -22,7 +22,7 @@ pub struct TryMarks {
 pub type Reply = Result<TryMarks, Refusal>;
 
 // What a changing call by value leaves and returns: a refused call's controller is the one that was handed over, and its marks are off. (The controller stands beside the
-// verdict, and not in it, since a refused call hands it back too.)
+// verdict, and not in it, since a refused call hands it back too; and so do the marks, since document 01 has each call return them.)
 #[derive(Clone, Copy, PartialEq, Debug)]
 pub struct Answer {
     pub controller: RateController,

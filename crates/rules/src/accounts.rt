@@ -30,6 +30,7 @@ fn age_account(by: f64, a: Account) -> Account
 }
 
 // The account of a frame's own rung, aged already, with the frame.
+// (All three fields change, so `..a` would take none over.)
 fn gain_frame(f: Frame, a: Account) -> Account
     ensures { result ≡ gained f a }
 {
@@ -46,6 +47,8 @@ fn gain_frame(f: Frame, a: Account) -> Account
 
 // ---- factors
 // The factor that rungs of one frame time age by. A time of 0.0: there is none yet.
+// (An Option here, and in `Fades` below, would spare no test: equal floats are the same value only where they are no zeros, so the last one would be tested against 0.0 all
+// the same, and a 0.0 says that there is none.)
 #[derive(Clone, Copy)]
 pub struct Fade {
     pub time: f64,
@@ -53,6 +56,7 @@ pub struct Fade {
 }
 
 // Whether there is a last value, and this is the same.
+// (The test against 0.0 is needed with an Option too: see `Fade`.)
 fn is_same(x: f64, last: f64) -> bool
     ensures { result ≡ (lt f0 last && eq x last) }
 {
@@ -91,6 +95,7 @@ impl Fades {
     }
 
     // The factors of all rungs in use, for a frame's air. One is computed anew only where the frame time differs from the rung's before.
+    // (By the rung's number, as `age` below goes by the entry's: of entries written through `iter_mut` Rattle's proofs know nothing, and both promise each entry.)
     fn fill(&mut self, t: &Table, air: f64)
         ensures fading { Fading t.now air self.new }
         ensures of_air { self.new.air ≡ air }
@@ -117,6 +122,7 @@ impl Fades {
 
 // ---- all accounts
 // The first n accounts, each aged by its factor.
+// (By number: see `fill`.)
 fn age(accounts: &mut [Account; 32], by: &[f64; 32], n: usize)
     requires { n ≤ 32 }
     ensures { accounts.new ≡ aged_by n 0 by.now accounts.old }

@@ -10,6 +10,7 @@ use limits::refusal::{Refusal, Verdict};
 const OVER: u32 = 257;
 
 // How many rungs the table has, the frames seen, up to 257, and the first bad frame's verdict.
+// (The count stands beside the verdict, and not in it: it goes on past a bad frame, since too many frames, 7, is said before that one's 6 or 8.)
 #[derive(Clone, Copy)]
 pub struct Check {
     pub rungs: u32,
@@ -18,6 +19,7 @@ pub struct Check {
 }
 
 // A frame against a table of so many rungs. Refused: 6, 8.
+// (The rung's number is tested, and not a rung: `rungs` is a count, and no `Rung`.)
 #[tactic(auto, unfolding(crate::specs::bridges::Check::frame_in))]
 pub fn frame_verdict(rungs: u32, f: Frame) -> Verdict
     ensures { result ≡ frame_in rungs f }
@@ -32,6 +34,7 @@ pub fn frame_verdict(rungs: u32, f: Frame) -> Verdict
 }
 
 // The count with a frame.
+// (`(n + 1).min(OVER)` would have to be kept from wrapping, and would lower a count past 257, which stays as it is here.)
 fn count_up(n: u32) -> u32
     ensures { result ≡ count_up n }
 {

@@ -23,6 +23,7 @@ pub struct Pass {
 }
 
 // The set with one rung more.
+// (`1u32.checked_shl(r.0).map_or(set, |bit| set | bit)` is the same test, hidden in a method and a closure.)
 fn add_rung(set: u32, r: Rung) -> u32
     ensures { result ≡ add_rung set r.0 }
 {
@@ -68,6 +69,8 @@ impl Pass {
 }
 
 // ---- the frames, in order
+// (`Kept` stands in contracts, here and in rate's `moves`, since it is of a table and factors that are lent each by itself: as the invariant of a struct it needs an owner of
+// both, which rate's `Player` is.)
 // One frame: it is booked, and what else the pass gathers.
 pub fn book(t: &Table, s: &mut State, fades: &mut Fades, y: &mut Pass, f: Frame)
     requires { Kept t.now fades.old }

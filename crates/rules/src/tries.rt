@@ -41,6 +41,7 @@ fn is_own(y: Option<Try>, f: Frame) -> bool
 }
 
 // The count with a frame, no further than what decides.
+// (Only the frames of the try's own count, and a count past 3 stays: `min` would say neither.)
 pub fn count_own(y: Option<Try>, f: Frame, n: u32) -> u32
     ensures { result ≡ count_own y f n }
 {

@@ -23,6 +23,8 @@ fn is_candidate(t: &Table, s: &State, i: Place, r: Rung) -> bool
 }
 
 // The lowest of greatest value.
+// (The number is the place itself, which is tested and found. This walk and `best_among` of echo.rt differ in what they test: one for both would take the test as a closure, and
+// its contract what the closure promises.)
 fn choose_place(t: &Table, p: &Prices, s: &State) -> Option<Found>
     ensures { result ≡ choose t.now p.now s.now }
 {
@@ -37,6 +39,7 @@ fn choose_place(t: &Table, p: &Prices, s: &State) -> Option<Found>
 }
 
 // ---- whether a try begins; v is the choice's value, read once
+// (The clause on v stands in three contracts: as the invariant of a struct it would need an owner of table, prices and state, which are lent each by itself.)
 // Whether a rung has waited long enough.
 fn is_due(t: &Table, p: &Prices, s: &State, r: Rung) -> bool
     ensures { result ≡ due t.now p.now s.now r.0 }

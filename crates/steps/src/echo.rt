@@ -21,6 +21,7 @@ pub(crate) fn is_out(t: &Table, s: &State, r: Rung) -> bool
 }
 
 // Whether a place exists and its rung is not out.
+// (The place's number is tested: `places` is a count, and no `Place`.)
 pub(crate) fn is_usable(t: &Table, s: &State, i: Place) -> bool
     ensures { result ≡ usable t.now s.now i.0 }
 {
@@ -40,6 +41,7 @@ fn improve(t: &Table, p: &Prices, s: &State, i: Place, best: Option<Found>) -> O
 }
 
 // The best of the usable ones among the first n places. No place past 31 is usable, so the walk up ends there at the latest.
+// (The number is the place itself: see `choose_place` of decide.rt.)
 fn best_among(t: &Table, p: &Prices, s: &State, n: u32) -> Option<Found>
     ensures { result ≡ greatest n 0 (usable t.now s.now) (λ j. value t.now p.now s.now (rung_at t.now j)) None }
 {
@@ -72,6 +74,7 @@ fn obey_echo(t: &Table, p: &Prices, s: &mut State)
 }
 
 // A frame's echo reading: a missing share, or an SNR under -6 dB, changes nothing.
+// (Share and SNR, as in the source's call: see rate's calls.rt.)
 #[tactic(auto, unfolding(rules::specs::Echo::observe_echo))]
 pub fn observe_echo(t: &Table, p: &Prices, s: &mut State, share: Reading, snr: f64)
     ensures { s.new ≡ observe_echo t.now p.now s.old share snr }
@@ -144,6 +147,7 @@ pub fn observe_snr(s: &mut State, snr: Reading)
 }
 
 // ---- `refuses`
+// (Two functions ask for OFDM rungs: one for both would take the second's further test as a closure, and its contract what the closure promises.)
 // Whether the front has OFDM rungs.
 fn has_ofdm(t: &Table) -> bool
     ensures { result ≡ some_from (places_of t.now) 0 (ofdm_at t.now) }
