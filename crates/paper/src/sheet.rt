@@ -10,7 +10,8 @@ use crate::types::Line;
 use limits::refusal::Refusal;
 use question::verdict::file_verdict;
 
-// How long the lines are.
+// How long the lines are. That they are 1,000 at most stands in three contracts here, each time as a number may not overflow or is handed on: a
+// struct of a slice with that invariant would be made in `sheet` of what `with_lines` lends, and taken apart by each of the three.
 fn measure_lines(lines: &[Line]) -> usize
     requires { length lines.now ≤ 1000 }
     ensures { result ≡ length (text_from 1 lines.now) }
