@@ -1,4 +1,5 @@
 // The sheet of a question file: its events are run once, and what is said of them is printed. How long the lines are is known before a byte is written.
+// Why each writer answers a length, and why a length is found by a function of its own, is said in `text` and in `lines`.
 ghost use Rattle.std.specs.Prelude.{◌≡◌, ◌≤◌, length, IfOk};
 ghost use Rattle.question.specs.Over.{over};
 ghost use Rattle.paper.specs.Sheet.{room_verdict, sheet_by, sheet_answer, left_by, sheet_left, refused_bytes, fitting, printed_in};
