@@ -42,7 +42,11 @@ impl Sums {
     }
 }
 
-// Each event is a call. The loop goes by the number of the event, as the definition does; a walk by a `Reader` would count beside it.
+// The two C functions below share `Sums` and no loop: one for both would be handed what it walks and a closure that makes the call, and would have to
+// promise of any closure what each of the two promises of its own call.
+//
+// Each event is a call. The loop goes by the number of the event, as the definition does: a `Reader` gives bodies without their numbers, which the proof
+// would count beside it.
 #[unsafe(no_mangle)]
 pub extern "C" fn by_value_events(file: &[u8]) -> u32
     ensures { result ≡ events_of file.now }

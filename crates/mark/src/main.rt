@@ -25,7 +25,7 @@ fn put_marks(rt: &impl Print, marks: Result<Score, Refusal>) -> io::Result<()> {
 }
 
 // The system's words for an error, without the number that std writes behind them. (The program sheet has the same two
-// functions: a crate for them would be no plainer.)
+// functions: a crate for them would be no plainer, with a root, a line in crates.txt and two imports for their four lines.)
 fn words(text: &str) -> &str {
     text.split(" (os error ").next().unwrap_or(text)
 }

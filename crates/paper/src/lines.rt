@@ -1,5 +1,5 @@
 // An event's line, the line of a refused file, and how long they are. A line goes to a slice that has room for it, piece by piece: each after the bytes
-// already written, into the part of the slice that is lent from there. The writers return how many bytes they took.
+// already written, into the part of the slice that is lent from there. The writers return how many bytes they took; why they do is said in `text`.
 ghost use Rattle.std.specs.Prelude.{◌≡◌, ◌≤◌, length, if◌then◌else◌, Ok, Err};
 ghost use Rattle.question.specs.Over.{over};
 ghost use Rattle.paper.specs.Lines.{cell_bytes, ended, row_of};
@@ -94,6 +94,11 @@ pub(crate) fn write_line(out: &mut [u8], event: u32, line: Line) -> usize
 }
 
 // ---- lengths
+//
+// The sheet's length is known before a byte is written, since refusal 13 leaves the slice as it was: so what a writer above writes has its length
+// here, as `measure_lines` is to `write_lines`. One function for both would need a trait of what takes the bytes, with a law and two impls, to save
+// these sums.
+//
 // How long the tried rung or `-` is.
 fn tried_length(tried: Option<Rung>) -> usize
     ensures { (result ≡ length (cell_bytes (tried_cell tried))) × (result ≤ 10) }

@@ -1,4 +1,5 @@
 // The sheet of a question file: its events are run once, and what is said of them is printed. How long the lines are is known before a byte is written.
+// Why each writer answers a length, and why a length is found by a function of its own, is said in `text` and in `lines`.
 ghost use Rattle.std.specs.Prelude.{◌≡◌, ◌≤◌, length, IfOk};
 ghost use Rattle.question.specs.Over.{over};
 ghost use Rattle.paper.specs.Sheet.{room_verdict, sheet_by, sheet_answer, left_by, sheet_left, refused_bytes, fitting, printed_in};
@@ -10,7 +11,8 @@ use crate::types::Line;
 use limits::refusal::Refusal;
 use question::verdict::file_verdict;
 
-// How long the lines are.
+// How long the lines are. That they are 1,000 at most stands in three contracts here, each time as a number may not overflow or is handed on: a
+// struct of a slice with that invariant would be made in `sheet` of what `with_lines` lends, and taken apart by each of the three.
 fn measure_lines(lines: &[Line]) -> usize
     requires { length lines.now ≤ 1000 }
     ensures { result ≡ length (text_from 1 lines.now) }

@@ -1,5 +1,11 @@
 // Pieces of a line, each written at the start of a slice that has room for it. The writers are inner: each caller has shown that the piece has room. All
 // return how many bytes they took.
+//
+// Why the writers here, in `lines` and in `sheet` are as they are. Not `Display` and `write!`: std promises what these wrote where they answer Ok,
+// and not when they do, and `sheet` promises its text wherever it has room. Not a String: the slice is the caller's (C's, of `paper_sheet`), and the
+// library allocates nothing. A length is answered, and not the slice that was written, since the caller writes on behind it in the same slice. Each
+// promises its own piece at the slice's start and the rest as it was (`over`): a struct of a slice and a length would say as much of its fields in
+// each method, and be one type more.
 ghost use Rattle.std.specs.Prelude.{◌≡◌, ◌≤◌, length};
 ghost use Rattle.question.specs.Over.{over};
 ghost use Rattle.paper.specs.Lines.{Number, decimal, ended};

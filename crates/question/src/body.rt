@@ -10,7 +10,8 @@ use ladder::types::Rung;
 use rules::types::Frame;
 use std::array;
 
-// How many frames a body of frames has.
+// How many frames a body of frames has. (`burst_count` differs in two numbers: a function that takes them would be called by these two alone, and say
+// less than the one line of each.)
 pub fn frame_count(body: &[u8]) -> usize
     ensures { result ≡ frame_count body.now }
 {
@@ -34,7 +35,8 @@ fn ok_frames(body: &[u8]) -> bool
     body.len() >= 10 && (body.len() - 10) % 12 == 0 && ok_reading(past(body, 1)) && ok_flags(body)
 }
 
-// Kind 2.
+// Kind 2. (The tests of kinds 2 and 4, and of 3 and 7, differ in the body's length. With that as a parameter, the four lengths would stand in
+// `ok_body`, away from the rest of a kind's form, which is here.)
 #[tactic(auto, unfolding(crate::specs::Body::ok_echo))]
 fn ok_echo(body: &[u8]) -> bool
     ensures { result ≡ ok_echo body.now }
@@ -97,7 +99,8 @@ pub fn ok_body(body: &[u8]) -> bool
     }
 }
 
-// The frame that stands at the start of the bytes.
+// The frame that stands at the start of the bytes. A function and no `From`: it reads the start of a longer slice, and a byte past the end as 0, which
+// `Frame::from(bytes)` would not say.
 #[tactic(auto, unfolding(crate::specs::Body::frame_of))]
 pub fn frame_of(bytes: &[u8]) -> Frame
     ensures { result ≡ frame_of bytes.now }

@@ -48,7 +48,8 @@ pub fn u32_of(bytes: &[u8]) -> u32
     ])
 }
 
-// Eight bytes.
+// Eight bytes, in two halves as the definition has them: `u64::from_le_bytes` would be handed eight bytes, each read by itself, where `u32_of` reads
+// four.
 #[tactic(auto, unfolding(crate::specs::Bytes::le64))]
 pub fn u64_of(bytes: &[u8]) -> u64
     ensures { result ≡ le64 bytes.now }

@@ -68,7 +68,8 @@ fn families_event(p: &mut Player, body: &[u8]) -> Reply
     p.set_families(own_floor, other_floor)
 }
 
-// Whether the lengths of a body of prices and its burst counts, however many, are within their limits.
+// Whether the lengths of a body of prices and its burst counts, however many, are within their limits. The three lengths go as `ok_lengths` and the
+// public `price_exchanges` take them: a struct of them would be made in `prices_event` and taken apart for each of the two.
 fn ok_prices(floor: f64, ordinary: f64, gap: f64, body: &[u8]) -> bool
     ensures { result ≡ (ok_length floor && ok_length ordinary && ok_length gap && every ok_burst (bursts_in body.now)) }
 {

@@ -12,7 +12,7 @@ pub fn event_count(file: &[u8]) -> u32
     u32_of(file)
 }
 
-// The air's number.
+// The air's number. It stays a number, since a file may hold any: `Bandwidth::try_from` says whether it names an air.
 pub fn air(file: &[u8]) -> u32
     ensures { result ≡ air file.now }
 {
@@ -29,7 +29,8 @@ pub(crate) fn ok_header(file: &[u8]) -> bool
         && event_count(file) <= 1000
 }
 
-// The offset of the i-th pair, from 0.
+// The offset of the i-th pair, from 0. (`length_at` differs in one number: a function of both would be handed an 8 or a 12, and not say which it
+// reads.)
 #[tactic(auto, unfolding(crate::specs::File::offset_at))]
 fn offset_at(file: &[u8], i: u32) -> u32
     ensures { result ≡ offset_at file.now i }
@@ -45,7 +46,8 @@ fn length_at(file: &[u8], i: u32) -> u32
     u32_of(past(file, 12 + 8 * (i as usize)))
 }
 
-// Whether the bodies follow the pairs and each other to the file's end.
+// Whether the bodies follow the pairs and each other to the file's end. The loop goes by the pair's number, by which `offset_at` and `length_at`
+// read, and stops at the first pair out of place: a `try_fold` over the pairs' bytes would carry `at` in an Option, and read pairs in a second way.
 pub(crate) fn ok_pairs(file: &[u8]) -> bool
     ensures { result ≡ ok_pairs file.now }
 {

@@ -1,4 +1,5 @@
 // "a reader keeps the question file and its next pair": next body and end test. As an iterator it gives the file's bodies, one after the other.
+// It keeps the whole file and a number, and no slice of what is left: the pairs say where in the whole file a body stands.
 ghost use Rattle.std.specs.Prelude.{◌≡◌, ◌<◌};
 ghost use Rattle.std.specs.Iterator.{YieldsFirstRef, item_count};
 ghost use Rattle.question.specs.File.{event_count, body_at, at_end, bodies_from};

@@ -8,7 +8,8 @@ use ladder::table::for_air;
 use rate::make::fresh;
 use rate::types::RateController;
 
-// The controller of an air by its number; one that names none stands for narrow.
+// The controller of an air by its number; one that names none stands for narrow. It takes the number, since `run` and `by_value` start on what a file
+// holds without asking whether that names an air: each would else answer for one that does not. `for_air` takes a bool, as document 01 writes it.
 #[tactic(auto, unfolding(crate::specs::Start::fresh_for), using(crate::proofs::Starting::wide_made, crate::proofs::Starting::narrow_made))]
 pub fn fresh_for(air: u32) -> RateController
     ensures { result ≡ fresh_for air }

@@ -117,7 +117,8 @@ fn hash(k: &RateController) -> u64 {
 }
 
 // ---- reading a list
-// The head of a list: how many rungs, floor rungs and echo limits it has, and whether its air is wide.
+// The head of a list: how many rungs, floor rungs and echo limits it has, and whether its air is wide. That is a bool, as the input has it and
+// `for_air` takes it: an enum would be made here to be taken apart there.
 #[derive(Clone, Copy)]
 struct Head {
     rungs: usize,
@@ -245,7 +246,7 @@ fn play_calls(
     Ok(())
 }
 
-// Passes over the calls that are next.
+// Passes over the calls that are next. It cannot fail, and `play_calls` can: a walk for both would be handed a closure, and answer a Result here too.
 fn skip_calls(input: &mut Input, calls: u32) {
     for _ in 0..calls {
         let n = input.number() as usize;
