@@ -25,7 +25,7 @@ int64_t rate_decode_probability(double snr_db, double threshold_db, double slope
 int64_t rate_usable_modes(const double *thresholds, size_t thresholds_len, const uint32_t *payload, size_t payload_len,
                           const double *frame_s, size_t frame_s_len, uint32_t (*out)[32]);
 
-/* What for_table says of these columns (crate ladder): 0, or minus the number of the refusal (-1 to -5). The echo column has
+/* What table_for says of these columns (crate ladder): 0, or minus the number of the refusal (-1 to -5). The echo column has
    known_len entries: entry i is missing where known[i] is 0 or limits ends before it, else it is limits[i]. */
 int64_t rate_table_refusal(const double *thresholds, size_t thresholds_len, const uint32_t *payload, size_t payload_len,
                            const uint32_t *capacity, size_t capacity_len, const double *frame_s, size_t frame_s_len,
