@@ -50,7 +50,8 @@ impl State {
         t.rung_at(self.core.place)
     }
 
-    // ---- changing
+    // ---- changing: nothing where there is no such rung
+    // (Two tests and two stores by index: `get_mut` was tried, and the check does not find the proof of what its store leaves of the array.)
     pub fn set_time(&mut self, r: Rung, x: f64)
         ensures { self.new ≡ with_time self.old r.0 x }
     {

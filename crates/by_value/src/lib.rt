@@ -3,7 +3,7 @@
 #![tactic(auto)]
 
 ghost use Rattle.std.specs.Prelude.{◌≡◌};
-ghost use Rattle.by_value.specs.Sums.{none, added, events_of, frames_of_first};
+ghost use Rattle.by_value.specs.Sums.{added, events_of, frames_of_first};
 
 use ladder::types::Rung;
 use question::body::frames_of;
@@ -21,14 +21,10 @@ struct Sums {
 
 impl Sums {
     // No choice yet.
-    fn none() -> Sums
-        ensures { result ≡ none }
-    {
-        Sums {
-            plain: 0,
-            placed: 0,
-        }
-    }
+    const NONE: Sums = Sums {
+        plain: 0,
+        placed: 0,
+    };
 
     // One choice more.
     fn add(self, choice: Rung) -> Sums
@@ -52,7 +48,7 @@ pub extern "C" fn by_value_events(file: &[u8]) -> u32
     ensures { result ≡ events_of file.now }
 {
     let mut k = fresh_for(air(file));
-    let mut sums = Sums::none();
+    let mut sums = Sums::NONE;
     for i in 0..event_count(file) {
         k = answer_event(k, body_at(file, i)).controller;
         sums = sums.add(k.choice());
@@ -69,7 +65,7 @@ pub extern "C" fn by_value_frames(file: &[u8]) -> u32
     let snr = reading_of(past(body, 1));
     let frames: [_; 256] = frames_of(body);
     let mut k = fresh_for(air(file));
-    let mut sums = Sums::none();
+    let mut sums = Sums::NONE;
     for frame in &frames {
         k = k.observe_frame(*frame, snr).controller;
         sums = sums.add(k.choice());

@@ -23,7 +23,7 @@ const ROOM: u64 = 262144;
 
 // ---- writing
 fn put_refused(rt: &impl Print, why: Refusal) -> io::Result<()> {
-    println!(rt; "refused {}", why.number())
+    println!(rt; "{why}")
 }
 
 fn put_marks(rt: &impl Print, marks: Result<Score, Refusal>) -> io::Result<()> {

@@ -55,7 +55,7 @@ fn readings_of(known: &[u8], limits: &[f64]) -> [Reading; 33]
     array::from_fn(|i| reading_at(known, limits, i))
 }
 
-// What `for_table` says of these columns: 0, or minus the refusal's number. Entry i of the echo column is missing where known[i] is 0, else limits[i].
+// What `table_for` says of these columns: 0, or minus the refusal's number. Entry i of the echo column is missing where known[i] is 0, else limits[i].
 // (As turmexol.h declares it. C has no Option and no Result: a column is a pointer and a length, a reading a byte and a number in two of them, and the verdict
 // a number.)
 #[unsafe(no_mangle)]

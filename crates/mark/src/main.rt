@@ -20,7 +20,7 @@ const PATH: usize = 4096;
 fn put_marks(rt: &impl Print, marks: Result<Score, Refusal>) -> io::Result<()> {
     match marks {
         Ok(score) => println!(rt; "{score}"),
-        Err(why) => println!(rt; "refused {}", why.number()),
+        Err(why) => println!(rt; "{why}"),
     }
 }
 

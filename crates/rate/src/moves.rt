@@ -125,7 +125,7 @@ fn accept_frames(k: &mut RateController, fades: &mut Fades, frames: &[Frame], sn
 }
 
 // The frames of one transmission, and its SNR reading: one thin pass checks the frames, and one books them. Refused: 6, 7, 8.
-pub fn observe_frames(
+pub(crate) fn observe_frames(
     k: &mut RateController,
     fades: &mut Fades,
     frames: &[Frame],
@@ -180,9 +180,7 @@ fn burst_array(bursts: &[u32]) -> [u32; 32]
     ensures { result ≡ filled 0 bursts.now }
 {
     let mut held = [0; 32];
-    for i in 0..bursts.len() {
-        held[i] = bursts[i];
-    }
+    held[..bursts.len()].copy_from_slice(bursts);
     held
 }
 

@@ -1,28 +1,32 @@
--- Walks over the front that end at the first place found, at i: what is left of the walk gives what the whole walk gives. Assumes nothing.
+-- Walks over the front that end at the first place found. Assumes nothing.
 use mathlib.Core.Path.{◌≡◌, refl, sym, ap, ◌∙◌}
 use mathlib.Core.Bool.{Bool, true, false, cond}
-use Prim.Native.Nat.{ℕ, zero, suc, ◌+◌, ◌-◌, ◌<◌, ◌≤◌, min}
+use Prim.Native.Nat.{ℕ, zero, suc, ◌+◌, ◌-◌, ◌≤◌, min}
 use native.Mathlib.Omega.{arith}
 use native.Mathlib.Numerals.{add-one}
 use lib.Dec.{eqb, ltb}
-use borrow.Author.Tests.{ne_eqb, ltb-true, ltb-false}
+use borrow.Author.Tests.{ltb-true, ltb-false}
 use Rattle.ladder.specs.declared.types.Table.{Table}
 use Rattle.ladder.specs.Types.{rung_at}
 use Rattle.account.specs.declared.types.State.{State}
 use Rattle.rules.specs.Echo.{usable, highest}
 use Rattle.rules.specs.Tries.{place_from}
+use Rattle.std.specs.List.{find, range_with_len}
+use Rattle.std.specs.Prelude.{Some, unwrap_or}
 use Rattle.rules.proofs.Usable.{none_past}
 
--- ---- up: the place of a rung
-module _ (t : Table) (r d n i : ℕ) (h : i < n) where
-  place_step : place_from (n - i) i t r d ≡ cond (eqb (rung_at t i) r) i (place_from (n - (i + 1)) (i + 1) t r d)
-  place_step =
-      let m = n - (i + 1) in
-      let e : n - i ≡ suc m = omega arith in
-      ap (λ (k : ℕ). place_from k i t r d) e ∙ sym (ap (λ (k : ℕ). cond (eqb (rung_at t i) r) i (place_from m k t r d)) (add-one i))
+-- ---- up: the place of a rung is the first that `find` meets
+abbrev pub place_is : Table → ℕ → ℕ → Bool
+place_is t r i = eqb (rung_at t i) r
 
-  pub place_further : (rung_at t i ≡ r → ⊥) → place_from (n - (i + 1)) (i + 1) t r d ≡ place_from (n - i) i t r d
-  place_further q = sym (place_step ∙ ap (λ (b : Bool). cond b i (place_from (n - (i + 1)) (i + 1) t r d)) (ne_eqb (rung_at t i) r q))
+pub find_place : (t : Table) (r d n i : ℕ) → unwrap_or (find (place_is t r) (range_with_len i n)) d ≡ place_from n i t r d
+find_place t r d zero i = refl
+find_place t r d (suc n) i = go (place_is t r i) (find_place t r d n (suc i))
+  where
+    go : (b : Bool) → unwrap_or (find (place_is t r) (range_with_len (suc i) n)) d ≡ place_from n (suc i) t r d
+        → unwrap_or (cond b (Some i) (find (place_is t r) (range_with_len (i + 1) n))) d ≡ cond b i (place_from n (suc i) t r d)
+    go true e = refl
+    go false e = ap (λ (k : ℕ). unwrap_or (find (place_is t r) (range_with_len k n)) d) (add-one i) ∙ e
 
 -- ---- down: the highest usable place. No place past 31 is usable
 module _ (t : Table) (s : State) where

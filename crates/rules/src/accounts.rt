@@ -109,7 +109,7 @@ impl Fades {
     }
 
     // The factors for a frame's air: those kept where it is the air that they are for.
-    pub fn turn(&mut self, t: &Table, air: f64)
+    pub(crate) fn turn(&mut self, t: &Table, air: f64)
         requires { Kept t.now self.old }
         ensures fading { Fading t.now air self.new }
         ensures kept { Kept t.now self.new }
@@ -133,7 +133,7 @@ fn age(accounts: &mut [Account; 32], by: &[f64; 32], n: usize)
 }
 
 // All accounts after a frame, by the factors of its air: all are aged, and the frame's own rung as it was before ages by its own factor and gains.
-pub fn book_accounts(t: &Table, accounts: &mut [Account; 32], fades: &Fades, f: Frame)
+pub(crate) fn book_accounts(t: &Table, accounts: &mut [Account; 32], fades: &Fades, f: Frame)
     requires { Fading t.now f.air fades.now }
     ensures { accounts.new ≡ book_frame (rungs_of t.now) 0 t.now f accounts.old }
 {

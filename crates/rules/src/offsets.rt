@@ -18,20 +18,14 @@ const OFFSET_MAX: f64 = 20.0;
 fn clamp_offset(x: f64) -> f64
     ensures { result ≡ clamp x }
 {
-    if x < OFFSET_MIN {
-        OFFSET_MIN
-    } else if x > OFFSET_MAX {
-        OFFSET_MAX
-    } else {
-        x
-    }
+    x.clamp(OFFSET_MIN, OFFSET_MAX)
 }
 
 // What a frame showed of its chance.
 fn hit(decoded: bool) -> f64
     ensures { result ≡ cond decoded f1 f0 }
 {
-    if decoded { 1.0 } else { 0.0 }
+    f64::from(decoded)
 }
 
 // An offset after a frame of its family: moved by the gain times the surprise.

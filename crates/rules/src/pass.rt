@@ -72,7 +72,7 @@ impl Pass {
 // (`Kept` stands in contracts, here and in rate's `moves`, since it is of a table and factors that are lent each by itself: as the invariant of a struct it needs an owner of
 // both, which rate's `Player` is.)
 // One frame: it is booked, and what else the pass gathers.
-pub fn book(t: &Table, s: &mut State, fades: &mut Fades, y: &mut Pass, f: Frame)
+pub(crate) fn book(t: &Table, s: &mut State, fades: &mut Fades, y: &mut Pass, f: Frame)
     requires { Kept t.now fades.old }
     ensures accounts { s.new ≡ record s.old { accounts = book_frame (rungs_of t.now) 0 t.now f s.old.accounts } }
     ensures pass { y.new ≡ pass_step t.now s.old.core y.old f }

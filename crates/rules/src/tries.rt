@@ -19,11 +19,11 @@ const TRY_FRAMES: u32 = 3;
 
 const TRY_CALLS: u32 = 6;
 
-// Twice the wait, at most the longest: not computed where it could wrap.
+// Twice the wait, at most the longest.
 pub fn longer(w: u32) -> u32
     ensures { result ≡ min 48 (2 * w) }
 {
-    if w < 24 { 2 * w } else { PROBE_WAIT_MAX }
+    w.saturating_mul(2).min(PROBE_WAIT_MAX)
 }
 
 // Whether the rung r is being tried.
@@ -37,7 +37,7 @@ pub fn is_trying(y: Option<Try>, r: Rung) -> bool
 fn is_own(y: Option<Try>, f: Frame) -> bool
     ensures { result ≡ is_own y f }
 {
-    y.is_some_and(|y| f.rung == y.rung)
+    is_trying(y, f.rung)
 }
 
 // The count with a frame, no further than what decides.

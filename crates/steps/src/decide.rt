@@ -19,7 +19,7 @@ fn is_candidate(t: &Table, s: &State, i: Place, r: Rung) -> bool
     requires { (i.0 < places_of t.now) × (r.0 ≡ rung_at t.now i.0) }
     ensures { result ≡ candidate t.now s.now i.0 }
 {
-    !is_out(t, s, r) && (i.0 <= s.core.place.0 || s.account(r).frames > 2.0)
+    !is_out(t, s, r) && (i <= s.core.place || s.account(r).frames > 2.0)
 }
 
 // The lowest of greatest value.

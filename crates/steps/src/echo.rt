@@ -88,6 +88,7 @@ pub fn observe_echo(t: &Table, p: &Prices, s: &mut State, share: Reading, snr: f
 }
 
 // The highest usable place at or under top, else 0. No place past 31 is usable, so the walk down starts there at the latest.
+// (`(1..=top.min(31)).rev().find(..)` was tried: std has no law of a range that is walked down, and its proof did not close.)
 fn highest_from(t: &Table, s: &State, top: u32) -> u32
     ensures { result ≡ highest t.now s.now top }
 {
@@ -152,25 +153,17 @@ pub fn observe_snr(s: &mut State, snr: Reading)
 fn has_ofdm(t: &Table) -> bool
     ensures { result ≡ some_from (places_of t.now) 0 (ofdm_at t.now) }
 {
-    for i in 0..t.places() {
-        if !t.is_floor(t.rung_at(Place(i))) {
-            return true;
-        }
-    }
-    false
+    (0..t.places()).any(|i| !t.is_floor(t.rung_at(Place(i))))
 }
 
 // Whether the front has OFDM rungs that are not out.
 fn has_ofdm_in(t: &Table, s: &State) -> bool
     ensures { result ≡ some_from (places_of t.now) 0 (λ i. ofdm_at t.now i && not (out t.now s.now (rung_at t.now i))) }
 {
-    for i in 0..t.places() {
+    (0..t.places()).any(|i| {
         let r = t.rung_at(Place(i));
-        if !t.is_floor(r) && !is_out(t, s, r) {
-            return true;
-        }
-    }
-    false
+        !t.is_floor(r) && !is_out(t, s, r)
+    })
 }
 
 // Whether the front has OFDM rungs and all are out.

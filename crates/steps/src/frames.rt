@@ -12,6 +12,7 @@ use ladder::types::{Place, Table};
 use rules::pass::Pass;
 
 // The times since each front rung's try, with the call's air.
+// (By place, as the rule goes: over `t.front()` the loop would have as many lines, and still test the number.)
 // (The entry's number is tested: of a slice that is written through `get_mut` Rattle's proofs know the length alone, and no entry.)
 fn pass_times(t: &Table, since: &mut [f64; 32], air: f64)
     ensures { since.new ≡ passed (places_of t.now) 0 t.now air since.old }

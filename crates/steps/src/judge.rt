@@ -39,7 +39,7 @@ fn judge_try(t: &Table, p: &Prices, s: &mut State, r: Rung) -> bool
 fn judge_one(t: &Table, p: &Prices, s: &mut State, r: Rung)
     ensures { s.new ≡ judge_one t.now p.now s.old r.0 }
 {
-    if s.choice(t).0 < r.0 && !rules::tries::is_trying(s.core.trying, r) {
+    if s.choice(t) < r && !rules::tries::is_trying(s.core.trying, r) {
         judge_try(t, p, s, r);
     }
 }
@@ -77,12 +77,9 @@ pub(crate) fn usable_above(t: &Table, s: &State) -> Option<Rung>
 fn place_of(t: &Table, r: Rung, d: u32) -> u32
     ensures { result ≡ place_from (places_of t.now) 0 t.now r.0 d }
 {
-    for i in 0..t.places() {
-        if t.rung_at(Place(i)) == r {
-            return i;
-        }
-    }
-    d
+    (0..t.places())
+        .find(|i| t.rung_at(Place(*i)) == r)
+        .unwrap_or(d)
 }
 
 // The rung above, if usable, gets its full wait as time.

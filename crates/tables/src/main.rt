@@ -38,6 +38,8 @@ fn float_at(bytes: &[u8; 8]) -> f64 {
     float::bits::float_of(u64::from_le_bytes(*bytes))
 }
 
+// Three columns, and what an entry of each is read by. (One function over the entry's size and the closure that reads it was tried: a bound on a closure that names a const
+// parameter is more than the check covers.)
 fn floats(alloc: Global, column: &[u8]) -> Result<Vec<f64>, AllocError> {
     let (entries, _) = column.as_chunks::<8>();
     entries.iter().map(float_at).collect(alloc)

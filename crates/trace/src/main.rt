@@ -268,7 +268,7 @@ fn play_list(rt: &impl Print, alloc: Global, input: &mut Input) -> io::Result<()
             play_calls(rt, k.for_air(head.wide), input, calls)
         }
         Err(why) => {
-            println!(rt; "refused {}", why.number())?;
+            println!(rt; "{why}")?;
             skip_calls(input, calls);
             Ok(())
         }

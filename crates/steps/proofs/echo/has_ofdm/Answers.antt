@@ -1,14 +1,15 @@
--- One place more is floor.
-use mathlib.Core.Path.{refl, ◌∙◌}
-use Rattle.std.proofs.Common.{arith, ◌≡◌, false}
+-- `any` over the places is `some_from` over them.
+use Rattle.std.proofs.Common.{◌∙◌, ℕ, Bool, arith, rules}
+use Rattle.std.proofs.lemmas.Iterator.{YieldsList-from_range}
+use Rattle.std.proofs.lemmas.Iterator.Search.{any_from_yields_List}
 use Rattle.ladder.specs.Types.{places_of}
+use Rattle.ladder.proofs.Ranges.{list_any-range}
 use Rattle.rules.specs.Echo.{ofdm_at}
-use Rattle.rules.proofs.Ranges.{further}
 use Rattle.steps.proofs.echo.has_ofdm.Goals as goal
 
-pub loop-i-preserved : goal.loop-i-preserved
-loop-i-preserved c =
+pub returns : goal.returns
+returns c =
     let t = c.args.t.now in
-    let l = c.loop-i in
-    let floor : ofdm_at t l.i ≡ false = rw (← c.rung_at.ensures, ← c.is_floor.ensures, c.if-not-is_floor.false) refl in
-    further (ofdm_at t) (places_of t) l.i (omega arith) _ refl floor ∙ l.invariant
+    let n = places_of t in
+    let test : ℕ → Bool = ofdm_at t in
+    any_from_yields_List test _ _ _ c.any.ensures.ran (YieldsList-from_range 0 n n (cc) (omega arith)) (λ x b q k. search rules) ∙ list_any-range test n 0

@@ -1,19 +1,16 @@
--- One place more is floor or out.
-use mathlib.Core.Path.{refl, ◌∙◌}
-use Rattle.std.proofs.Common.{arith, ◌≡◌, false}
-use Rattle.ladder.specs.Types.{places_of}
-use Rattle.rules.proofs.Ranges.{further}
-use Rattle.steps.proofs.echo.has_ofdm_in.Invariants.{ofdm_in}
+-- `any` over the places is `some_from` over them.
+use Rattle.std.proofs.Common.{◌&&◌, not, ◌∙◌, ℕ, Bool, arith, rules}
+use Rattle.std.proofs.lemmas.Iterator.{YieldsList-from_range}
+use Rattle.std.proofs.lemmas.Iterator.Search.{any_from_yields_List}
+use Rattle.ladder.specs.Types.{rung_at, places_of}
+use Rattle.ladder.proofs.Ranges.{list_any-range}
+use Rattle.rules.specs.Echo.{ofdm_at, out}
 use Rattle.steps.proofs.echo.has_ofdm_in.Goals as goal
-use Rattle.steps.proofs.echo.has_ofdm_in.Goals.{else-not-is_floor-via-then-not-is_floor+else-not-is_out, else-not-is_floor-via-else-not-is_floor}
 
-pub loop-i-preserved : goal.loop-i-preserved
-loop-i-preserved c =
+pub returns : goal.returns
+returns c =
     let t = c.args.t.now in
-    let l = c.loop-i in
-    let out : ofdm_in t c.args.s.now l.i ≡ false =
-    elim c.else-not-is_floor.branch [
-      | else-not-is_floor-via-then-not-is_floor+else-not-is_out w ↦ rw (← c.rung_at-r.ensures, ← c.is_floor.ensures, w.if-not-is_floor.true, ← w.is_out.ensures, w.if-not-is_out.false) refl
-      | else-not-is_floor-via-else-not-is_floor w ↦ rw (← c.rung_at-r.ensures, ← c.is_floor.ensures, w.if-not-is_floor.false) refl
-    ] in
-    further (ofdm_in t c.args.s.now) (places_of t) l.i (omega arith) _ refl out ∙ l.invariant
+    let s = c.args.s.now in
+    let n = places_of t in
+    let test : ℕ → Bool = λ i. ofdm_at t i && not (out t s (rung_at t i)) in
+    any_from_yields_List test _ _ _ c.any.ensures.ran (YieldsList-from_range 0 n n (cc) (omega arith)) (λ x b q k. search rules) ∙ list_any-range test n 0
