@@ -16,18 +16,18 @@ use Rattle.std.specs.Prelude.{None, Some}
 use Rattle.ladder.specs.declared.types.Rung.{Rung}
 use Rattle.ladder.specs.declared.types.Table.{Table}
 use Rattle.ladder.specs.Lists.{every}
-use Rattle.ladder.specs.Types.{is_floor}
+use Rattle.ladder.specs.Types.{rung, is_floor}
 use Rattle.account.specs.declared.types.Core.{Core}
 use Rattle.account.specs.declared.types.Offsets.{Offsets}
 use Rattle.account.specs.declared.types.Prices.{Prices}
 use Rattle.account.specs.declared.types.State.{State}
-use Rattle.account.specs.State.{Trying, try_of, wait_of, with_time, with_wait}
+use Rattle.account.specs.State.{Trying, choice, try_of, wait_of, with_time, with_wait}
 use Rattle.rules.specs.Lists.{some_of, how_many}
 use Rattle.rules.specs.Echo.{observe_snr}
-use Rattle.rules.specs.Booking.{Frame, at, offsets_at, offsets_after, ofdm, judge_family, airs, sent, clean_mark, booked}
+use Rattle.rules.specs.Booking.{Frame, at, book, call_air, offsets_at, offsets_after, ofdm, judge_family, airs, sent, clean_mark, booked}
 use Rattle.rules.specs.Tries.{better, judge_try, to_judge, judge_sent, judge_above, own_frames, end_try, counted, decide}
 use Rattle.rules.specs.bridges.Sets.{in_set}
-use Rattle.rules.specs.bridges.Pass.{Pass, Marks, add_rung, offsets_by, mark_family, mark_choice, count_own, begin_pass, here_of, pass_step, pass_all, booked_accounts, finish_pass, judged_pass, decided_pass}
+use Rattle.rules.specs.bridges.Pass.{Pass, Marks, add_rung, offsets_by, mark_family, mark_choice, family_mark, choice_mark, count_own, begin_pass, here_of, pass_step, pass_all, booked_accounts, finish_pass, judged_pass, decided_pass}
 use Rattle.rules.specs.Transmission.{judged, inside}
 use Rattle.rules.proofs.Set.{adds, none_in, judge_frames}
 
@@ -123,11 +123,33 @@ gathers : (t : Table) (c : Core) (y : Pass) (fs : List Frame) → pass_all t c y
 gathers t c y [] = gathered_none t c y
 gathers t c y (f ∷ fs) = gathers t c (pass_step t c y f) fs ∙ gathered_step t c y f fs
 
--- ---- a pass from its beginning
--- the state after it is the one that the definitions book
-pub pass_books : (t : Table) (s : State) (fs : List Frame) → finish_pass t (booked_accounts t fs s) (pass_all t s.core (begin_pass s.core) fs) ≡ booked t s fs
-unfolding finish_pass booked offsets_after judge_family clean_mark
-pass_books t s fs = ap (finish_pass t (booked_accounts t fs s)) (gathers t s.core (begin_pass s.core) fs)
+-- ---- a pass from its beginning: what each part of it gathers
+module _ (t : Table) (s : State) (fs : List Frame) where
+  abbrev gather : Pass
+  gather = pass_all t s.core (begin_pass s.core) fs
+
+  pub accounts_booked : (booked_accounts t fs s).accounts ≡ book t fs s.accounts
+  accounts_booked = refl
+
+  pub offsets_moved : gather.offsets ≡ offsets_after t s fs
+  unfolding offsets_after
+  offsets_moved = ap (λ (y : Pass). y.offsets) (gathers t s.core (begin_pass s.core) fs)
+
+  pub air_summed : gather.air ≡ call_air fs
+  air_summed = ap (λ (y : Pass). y.air) (gathers t s.core (begin_pass s.core) fs)
+
+  pub family_judged : family_mark gather.marks s.core.failed ≡ judge_family t fs s.core.failed
+  unfolding judge_family
+  family_judged = ap (λ (y : Pass). family_mark y.marks s.core.failed) (gathers t s.core (begin_pass s.core) fs)
+
+  pub clean_marked : choice_mark gather.marks (rung (here_of t s.core)) ≡ clean_mark (choice t s) fs
+  unfolding clean_mark
+  clean_marked = ap (λ (y : Pass). choice_mark y.marks (rung (here_of t s.core))) (gathers t s.core (begin_pass s.core) fs)
+
+  -- the state after it is the one that the definitions book
+  pub pass_books : finish_pass t (booked_accounts t fs s) gather ≡ booked t s fs
+  unfolding finish_pass booked offsets_after judge_family clean_mark
+  pass_books = ap (finish_pass t (booked_accounts t fs s)) (gathers t s.core (begin_pass s.core) fs)
 
 -- ---- the set of rungs sent
 add_rung_lem : (set q r : ℕ) → r < 32 → in_set (add_rung set q) r ≡ (eqb q r || in_set set r)
@@ -214,7 +236,7 @@ module _ (t : Table) (p : Prices) (s : State) (fs : List Frame) where
   abbrev y : Pass
   y = pass_all t s.core (begin_pass s.core) fs
 
-  sent_judged : judged_pass t p (booked_accounts t fs s) y ≡ judged t p s fs
+  pub sent_judged : judged_pass t p (booked_accounts t fs s) y ≡ judged t p s fs
   sent_judged = judge_frames t p fs _ _ (rungs_sent t s fs) ∙ ap (judge_above 32 0 t p fs) (pass_books t s fs)
 
   try_counted : counted t p y.own (judged t p s fs) (judged t p s fs).core.trying ≡ counted t p (own_frames fs (judged t p s fs).core.trying) (judged t p s fs) (judged t p s fs).core.trying
@@ -223,10 +245,17 @@ module _ (t : Table) (p : Prices) (s : State) (fs : List Frame) where
       let q : y.own ≡ min 3 (own_frames fs b.core.trying) = own_counted t s fs ∙ ap (λ (x : Trying). min 3 (own_frames fs x)) (sym try_kept) in
       ap (λ (n : ℕ). counted t p n b b.core.trying) q ∙ counted_to_3 t p (own_frames fs b.core.trying) b b.core.trying
 
--- what is decided after the pass is what the rules decide: z is the state with its SNR smoothed, and its frames are booked
-pub decided : (t : Table) (p : Prices) (s : State) (fs : List Frame) (snr : Reading) → let z = observe_snr s snr in decided_pass t p (booked_accounts t fs z) (pass_all t z.core (begin_pass z.core) fs) ≡ decide t p (inside t p s fs snr)
-unfolding decided_pass inside
-decided t p s fs snr =
+-- what `decide` is given, by the pass alone: y is what is gathered of the frames, the SNR being smoothed already, and b the state with the sent rungs judged
+pub pass_inside : (t : Table) (p : Prices) (s : State) (fs : List Frame) (snr : Reading) (y : Pass) (b : State)
+    → let z = observe_snr s snr in y ≡ pass_all t z.core (begin_pass z.core) fs → b ≡ judged_pass t p (booked_accounts t fs z) y
+    → counted t p y.own b b.core.trying ≡ inside t p s fs snr
+unfolding inside
+pass_inside t p s fs snr y b e d =
     let z = observe_snr s snr in
-    let y = pass_all t z.core (begin_pass z.core) fs in
-    ap (λ (b : State). decide t p (counted t p y.own b b.core.trying)) (sent_judged t p z fs) ∙ ap (decide t p) (try_counted t p z fs)
+    let q : b ≡ judged t p z fs = d ∙ ap (judged_pass t p (booked_accounts t fs z)) e ∙ sent_judged t p z fs in
+    ap (λ (x : State). counted t p y.own x x.core.trying) q ∙ ap (λ (x : Pass). counted t p x.own (judged t p z fs) (judged t p z fs).core.trying) e ∙ try_counted t p z fs
+
+-- so what is decided after the pass is what the rules decide
+pub decided : (t : Table) (p : Prices) (s : State) (fs : List Frame) (snr : Reading) → let z = observe_snr s snr in decided_pass t p (booked_accounts t fs z) (pass_all t z.core (begin_pass z.core) fs) ≡ decide t p (inside t p s fs snr)
+unfolding decided_pass
+decided t p s fs snr = let z = observe_snr s snr in ap (decide t p) (pass_inside t p s fs snr (pass_all t z.core (begin_pass z.core) fs) _ refl refl)

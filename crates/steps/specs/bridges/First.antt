@@ -1,4 +1,4 @@
--- The place that a session starts at from the SNR that is known: `first_place` is this once its reading is taken (proofs/Values.antt). Definitions only.
+-- The place that a session starts at from the SNR that is known: `first_place` is this once its reading is taken, as its promise says. Definitions only.
 use Rattle.std.specs.Prelude.{ℕ, None}
 use Rattle.ladder.specs.declared.types.Table.{Table}
 use Rattle.ladder.specs.Types.{rung_at, places_of}
