@@ -16,7 +16,8 @@ use Rattle.float.proofs.Monotone.{natural, mul_natural, mul_mono_finite, between
 use Rattle.limits.specs.Values.{f60, milli, ok_air}
 use Rattle.ladder.specs.declared.types.Table.{Table}
 use Rattle.ladder.specs.Types.{row, rungs_of}
-use Rattle.ladder.proofs.Cases.{pick_by, yes_of}
+use Rattle.std.proofs.lemmas.Bool.{cond_both}
+use Rattle.std.proofs.lemmas.Float.{T_from_true}
 use Rattle.ladder.proofs.TableSound.{TableSound}
 use Rattle.account.specs.State.{Tariff, State, wait_of}
 use Rattle.account.specs.Price.{burst_or, full_air, wait_seconds}
@@ -26,7 +27,7 @@ of_natural : (n : ℕ) → natural (of_nat n)
 unfolding of_int
 of_natural n = subst (λ (z : Float). T (le z (round binary64 false n 1))) (round_zero binary64 1 (pow_pos 0)) (round_mono binary64 0 1 n 1 (pow_pos 0) (pow_pos 0) (omega arith))
 
-of_mono : (m n : ℕ) → m ≤ n → T (le (of_nat m) (of_nat n))
+pub of_mono : (m n : ℕ) → m ≤ n → T (le (of_nat m) (of_nat n))
 unfolding of_int
 of_mono m n h = round_mono binary64 m 1 n 1 (pow_pos 0) (pow_pos 0) (omega arith)
 
@@ -61,7 +62,7 @@ most_finite = tt
 
 pub bursts_small : (p : Option Tariff) → TariffSound p → (r d : ℕ) → d ≤ 1000 → burst_or p r d ≤ 1000
 bursts_small None ps r d k = k
-bursts_small (Some p) ps r d k = pick_by (λ (o : Option ℕ). unwrap_or o d ≤ 1000) (ltb r p.counted) (λ e. ps r (ltb→lt r p.counted (yes_of e))) (λ e. k)
+bursts_small (Some p) ps r d k = cond_both (ltb r p.counted) _ _ (λ (o : Option ℕ). unwrap_or o d ≤ 1000) (λ e. ps r (ltb→lt r p.counted (T_from_true _ e))) (λ e. k)
 
 module _ (t : Table) (p : Option Tariff) (ts : TableSound t) (ps : TariffSound p) (r : ℕ) (h : r < rungs_of t) where
   burst_small : burst_or p r 1 ≤ 1000

@@ -1,8 +1,8 @@
 // What a rung is rated by, of a table, the prices set and a state that are lent.
 ghost use Rattle.std.specs.Prelude.{◌≡◌};
-ghost use Rattle.account.specs.Price.{offset, chance, prior, estimate, lossless, burst, control, overhead_of, priced, value, lossless_price, full_air, wait_seconds};
+ghost use Rattle.account.specs.Price.{offset, chance, prior, estimate_at, estimate, lossless, burst, control, overhead_of, priced, value, lossless_price, full_air, wait_seconds};
 
-use crate::types::{Families, Prices, State, Tariff};
+use crate::types::{Families, State, Tariff, Terms};
 use ladder::types::{Rung, Table};
 use limits::reading::Reading;
 
@@ -13,6 +13,8 @@ const SLOPE_DB: f64 = 0.5;
 
 // ---- prior and estimate
 // How far a rung is read under the SNR: its family's offset.
+// (This, `control` and what moves an offset in rules each choose one of two fields by one `if`. The fields have document 01's words, floor and OFDM for
+// rungs, floor and ordinary for lengths: one struct of both families, generic in what it holds, would rename them and need the same `if`.)
 fn offset(t: &Table, s: &State, r: Rung) -> f64
     ensures { result ≡ offset t.now s.now r.0 }
 {
@@ -36,20 +38,24 @@ pub fn chance(t: &Table, r: Rung, off: f64, snr: f64) -> f64
 fn prior(t: &Table, r: Rung, off: f64, snr: Reading) -> f64
     ensures { result ≡ prior t.now r.0 off snr }
 {
-    match snr {
-        None => 0.0,
-        Some(x) => t.row(r).capacity as f64 * chance(t, r, off, x),
-    }
+    snr.map_or(0.0, |x| t.row(r).capacity as f64 * chance(t, r, off, x))
 }
 
-// Data bytes a second of air at the rung delivers, measured and prior together, at the smoothed SNR.
+// Data bytes a second of air at the rung delivers, measured and prior together, at an SNR.
 #[tactic(auto, unfolding(crate::specs::Price::estimate_at, crate::specs::Price::chance))]
+fn estimate_at(t: &Table, s: &State, r: Rung, snr: Reading) -> f64
+    ensures { result ≡ estimate_at t.now s.now r.0 snr }
+{
+    let a = s.account(r);
+    let prior = prior(t, r, offset(t, s, r), snr);
+    (a.bytes + PRIOR_FRAMES * prior) / (a.air + PRIOR_FRAMES * t.row(r).time)
+}
+
+// The same at the smoothed SNR.
 pub fn estimate(t: &Table, s: &State, r: Rung) -> f64
     ensures { result ≡ estimate t.now s.now r.0 }
 {
-    let a = s.account(r);
-    let prior = prior(t, r, offset(t, s, r), s.core.snr);
-    (a.bytes + PRIOR_FRAMES * prior) / (a.air + PRIOR_FRAMES * t.row(r).time)
+    estimate_at(t, s, r, s.core.snr)
 }
 
 // Data bytes a second of a rung's frames carries, nothing lost.
@@ -68,13 +74,10 @@ impl Tariff {
     fn burst(&self, r: Rung) -> Option<u32>
         ensures { result ≡ burst self.now r.0 }
     {
-        if r.0 >= self.counted {
-            return None;
-        }
-        Some(self.bursts.get(r.0 as usize).copied().unwrap_or(0))
+        (r.0 < self.counted).then(|| self.bursts.get(r.0 as usize).copied().unwrap_or(0))
     }
 
-    // A control frame's length, on the floor or not.
+    // A control frame's length, on the floor or not. (A bool here and in `overhead`, as in `Families`.)
     fn control(&self, floor: bool) -> f64
         ensures { result ≡ control self.now floor }
     {
@@ -93,56 +96,66 @@ impl Tariff {
     }
 }
 
-// A rate per second of air as one per second of a whole exchange; itself where unpriced or the burst count is 0 or absent.
-#[tactic(auto, unfolding(crate::specs::Price::priced))]
-fn priced(t: &Table, p: &Prices, r: Rung, x: f64) -> f64
-    ensures { result ≡ priced t.now p.now r.0 x }
-{
-    let Some(tariff) = &p.tariff else {
-        return x;
-    };
-    let n = tariff.burst(r).unwrap_or(0);
-    if n == 0 {
-        return x;
+impl Terms<'_> {
+    // A rate per second of air as one per second of a whole exchange; itself where unpriced or the burst count is 0 or absent.
+    #[tactic(auto, unfolding(crate::specs::Price::priced))]
+    fn priced(self, r: Rung, x: f64) -> f64
+        ensures { result ≡ priced self.entry.table.now self.entry.prices.now r.0 x }
+    {
+        let Some(tariff) = &self.prices.tariff else {
+            return x;
+        };
+        let n = tariff.burst(r).unwrap_or(0);
+        if n == 0 {
+            return x;
+        }
+        let a = n as f64 * self.table.row(r).time;
+        x * a / (a + tariff.overhead(self.prices.families, self.table.is_floor(r)))
     }
-    let a = n as f64 * t.row(r).time;
-    x * a / (a + tariff.overhead(p.families, t.is_floor(r)))
-}
 
-// ---- value
-// What the rungs are ranked by: the estimate at the smoothed SNR, priced.
-#[tactic(auto, unfolding(crate::specs::Price::value, crate::specs::Price::estimate_at))]
-pub fn value(t: &Table, p: &Prices, s: &State, r: Rung) -> f64
-    ensures { result ≡ value t.now p.now s.now r.0 }
-{
-    priced(t, p, r, estimate(t, s, r))
-}
+    // ---- value
+    // What the rungs are ranked by, at an SNR: the estimate there, priced.
+    pub fn value_at(self, s: &State, r: Rung, snr: Reading) -> f64
+        ensures { result ≡ priced self.entry.table.now self.entry.prices.now r.0 (estimate_at self.entry.table.now s.now r.0 snr) }
+    {
+        self.priced(r, estimate_at(self.table, s, r, snr))
+    }
 
-// The most that a rung could be worth: `lossless` priced.
-#[tactic(auto, unfolding(crate::specs::Price::lossless_price))]
-pub fn lossless_price(t: &Table, p: &Prices, r: Rung) -> f64
-    ensures { result ≡ lossless_price t.now p.now r.0 }
-{
-    priced(t, p, r, lossless(t, r))
-}
+    // The same at the smoothed SNR.
+    #[tactic(auto, unfolding(crate::specs::Price::value))]
+    pub fn value(self, s: &State, r: Rung) -> f64
+        ensures { result ≡ value self.entry.table.now self.entry.prices.now s.now r.0 }
+    {
+        self.value_at(s, r, s.core.snr)
+    }
 
-// ---- air and wait
-// The air of a full transmission at a rung: one frame where its burst count is absent.
-#[tactic(auto, unfolding(crate::specs::Price::full_air))]
-fn full_air(t: &Table, p: &Prices, r: Rung) -> f64
-    ensures { result ≡ full_air t.now p.now.tariff r.0 }
-{
-    let given = match &p.tariff {
-        Some(tariff) => tariff.burst(r),
-        None => None,
-    };
-    given.unwrap_or(1) as f64 * t.row(r).time
-}
+    // The most that a rung could be worth: `lossless` priced.
+    #[tactic(auto, unfolding(crate::specs::Price::lossless_price))]
+    pub fn lossless_price(self, r: Rung) -> f64
+        ensures { result ≡ lossless_price self.entry.table.now self.entry.prices.now r.0 }
+    {
+        self.priced(r, lossless(self.table, r))
+    }
 
-// A rung's wait in seconds: so many full transmissions.
-#[tactic(auto, unfolding(crate::specs::Price::wait_seconds))]
-pub fn wait_seconds(t: &Table, p: &Prices, s: &State, r: Rung) -> f64
-    ensures { result ≡ wait_seconds t.now p.now.tariff s.now r.0 }
-{
-    s.wait(r) as f64 * full_air(t, p, r)
+    // ---- air and wait
+    // The air of a full transmission at a rung: one frame where its burst count is absent.
+    #[tactic(auto, unfolding(crate::specs::Price::full_air))]
+    fn full_air(self, r: Rung) -> f64
+        ensures { result ≡ full_air self.entry.table.now self.entry.prices.now.tariff r.0 }
+    {
+        let given = self
+            .prices
+            .tariff
+            .as_ref()
+            .and_then(|tariff| tariff.burst(r));
+        given.unwrap_or(1) as f64 * self.table.row(r).time
+    }
+
+    // A rung's wait in seconds: so many full transmissions.
+    #[tactic(auto, unfolding(crate::specs::Price::wait_seconds))]
+    pub fn wait_seconds(self, s: &State, r: Rung) -> f64
+        ensures { result ≡ wait_seconds self.entry.table.now self.entry.prices.now.tariff s.now r.0 }
+    {
+        s.wait(r) as f64 * self.full_air(r)
+    }
 }

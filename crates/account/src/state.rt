@@ -1,8 +1,8 @@
 // How the state is read, changed and fresh. Outside the arrays the source's own defaults are read, and nothing is stored, so each function is total.
-ghost use Rattle.std.specs.Prelude.{◌≡◌, not, ◌&&◌, ◌||◌, is_some};
+ghost use Rattle.std.specs.Prelude.{◌≡◌, not, ◌&&◌, ◌||◌, is_some, slice_set};
 ghost use Rattle.account.specs.State.{account, time_of, wait_of, choice, with_time, with_wait};
 
-use crate::types::{Account, Core, Offsets, Prices, State, Try};
+use crate::types::{Account, Core, Offsets, State, Try};
 use ladder::types::{Place, Rung, Table};
 
 // The shortest wait before a rung is tried, in full transmissions.
@@ -17,8 +17,19 @@ impl Account {
     };
 }
 
+// Sets a rung's entry of an array by rung; nothing where there is no such rung.
+// (A test and a store by index: of a slice's `get_mut` the library's contract says which entry it lends, and of what the slice ends as nothing.)
+fn store<T: Copy>(entries: &mut [T; 32], r: Rung, x: T)
+    ensures { entries.new ≡ slice_set entries.old r.0 x }
+{
+    if r.0 < 32 {
+        entries[r.0 as usize] = x;
+    }
+}
+
 impl State {
     // ---- reading
+    // (Each read is one chain of the library's methods, with the default in it: a function for all would take array, rung and default, and hide `get`.)
     // A rung's account.
     pub fn account(&self, r: Rung) -> Account
         ensures { result ≡ account self.now r.0 }
@@ -51,21 +62,16 @@ impl State {
     }
 
     // ---- changing: nothing where there is no such rung
-    // (Two tests and two stores by index: `get_mut` was tried, and the check does not find the proof of what its store leaves of the array.)
     pub fn set_time(&mut self, r: Rung, x: f64)
         ensures { self.new ≡ with_time self.old r.0 x }
     {
-        if r.0 < 32 {
-            self.since[r.0 as usize] = x;
-        }
+        store(&mut self.since, r, x);
     }
 
     pub fn set_wait(&mut self, r: Rung, n: u32)
         ensures { self.new ≡ with_wait self.old r.0 n }
     {
-        if r.0 < 32 {
-            self.wait[r.0 as usize] = n;
-        }
+        store(&mut self.wait, r, n);
     }
 }
 
@@ -96,13 +102,5 @@ impl State {
             failed: false,
             clean: None,
         },
-    };
-}
-
-impl Prices {
-    // No prices and no families set.
-    pub const UNSET: Prices = Prices {
-        tariff: None,
-        families: None,
     };
 }

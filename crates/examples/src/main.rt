@@ -5,79 +5,80 @@
 // sheets are the Rust's.
 #![tactic(auto)]
 
-ghost use Rattle.std.specs.Prelude.{◌≤◌, IfOk};
+ghost use Rattle.std.specs.Prelude.{◌≡◌, ◌-◌, ◌<◌, length, IfSome};
 
-use limits::refusal::Refusal;
-use paper::types::Score;
-use question::bytes::{part, past, u32_of};
+use question::bytes::{past, u32_of};
 use std::io;
 use std::io::Read;
 
 // The bytes before a paper's name.
-const HEAD: usize = 16;
+const HEAD: u32 = 16;
 
+// The most bytes of an output slice, of which the library says how many it filled.
 const SHEET: usize = 32768;
 
 // The most bytes of an input that are read.
 const ROOM: u64 = 262144;
 
-// ---- writing
-fn put_refused(rt: &impl Print, why: Refusal) -> io::Result<()> {
-    println!(rt; "{why}")
+// A paper of the input, and the room of the output slice that its sheet gets.
+#[derive(Clone, Copy)]
+struct Paper<'a> {
+    name: &'a [u8],
+    question: &'a [u8],
+    answers: &'a [u8],
+    room: usize,
 }
 
-fn put_marks(rt: &impl Print, marks: Result<Score, Refusal>) -> io::Result<()> {
-    print!(rt; "marks ")?;
-    match marks {
-        Ok(score) => println!(rt; "{score}"),
-        Err(why) => put_refused(rt, why),
+// ---- reading
+// The next `len` bytes, and what is behind them. Where there are fewer, all of them are taken.
+fn split(bytes: &[u8], len: u32) -> (&[u8], &[u8])
+    ensures { length result.1.now ≡ length bytes.now - len }
+{
+    bytes.split_at(bytes.len().min(len as usize))
+}
+
+// The first paper, and what is behind it. A number past the input's end is 0.
+fn first_paper(papers: &[u8]) -> Option<(Paper<'_>, &[u8])>
+    ensures { IfSome result (λ p. length p.1.now < length papers.now) }
+{
+    if papers.is_empty() {
+        return None;
     }
+    let (head, rest) = split(papers, HEAD);
+    let (name, rest) = split(rest, u32_of(head));
+    let (question, rest) = split(rest, u32_of(past(head, 4)));
+    let (answers, rest) = split(rest, u32_of(past(head, 8)));
+    let paper = Paper {
+        name,
+        question,
+        answers,
+        room: u32_of(past(head, 12)) as usize,
+    };
+    Some((paper, rest))
 }
 
-// ---- the papers
-// The u32 at a place of a paper's head; more than any input holds is taken for that.
-fn length_at(paper: &[u8], at: usize) -> usize
-    ensures { result ≤ 1048576 }
-{
-    (u32_of(past(paper, at)) as usize).min(1048576)
-}
-
-// Plays a question file in an output slice of the room given, and marks its answers.
-fn play(rt: &impl Print, question: &[u8], answers: &[u8], room: usize) -> io::Result<()>
-    requires { room ≤ 32768 }
-{
-    let mut out = [0u8; SHEET];
-    let slice = &mut out[..room];
-    match paper::sheet::sheet(question, slice) {
-        Ok(len) => rt.write_all(&slice[..len])?,
-        Err(why) => put_refused(rt, why)?,
-    }
-    put_marks(rt, paper::mark::mark(question, answers))
-}
-
-// Plays the paper at the start of the bytes, and gives its length.
-fn play_first(rt: &impl Print, papers: &[u8]) -> io::Result<usize>
-    ensures { IfOk result (λ end. 16 ≤ end) }
-{
-    let question_at = HEAD + length_at(papers, 0);
-    let answers_at = question_at + length_at(papers, 4);
-    let end = answers_at + length_at(papers, 8);
-    rt.write_all(part(papers, HEAD, length_at(papers, 0)))?;
+// ---- playing
+// Writes a paper's name and its sheet, and marks its answers.
+fn play(rt: &impl Print, paper: Paper) -> io::Result<()> {
+    rt.write_all(paper.name)?;
     rt.write_all(b"\n")?;
-    play(
-        rt,
-        part(papers, question_at, length_at(papers, 4)),
-        part(papers, answers_at, length_at(papers, 8)),
-        length_at(papers, 12).min(SHEET),
-    )?;
-    Ok(end)
+    let mut out = [0u8; SHEET];
+    let slice = &mut out[..paper.room.min(SHEET)];
+    match paper::sheet::sheet(paper.question, slice) {
+        Ok(len) => rt.write_all(&slice[..len])?,
+        Err(why) => println!(rt; "{why}")?,
+    }
+    match paper::mark::mark(paper.question, paper.answers) {
+        Ok(score) => println!(rt; "marks {score}"),
+        Err(why) => println!(rt; "marks {why}"),
+    }
 }
 
-fn play_all(rt: &impl Print, papers: &[u8]) -> io::Result<()> {
-    let mut rest = papers;
-    while !rest.is_empty() {
-        let taken = play_first(rt, rest)?;
-        rest = past(rest, taken);
+// Plays the papers, one after the other. (A loop over an iterator of them would need a promise of what each `next` leaves, a definition more, to end.)
+fn play_all(rt: &impl Print, mut papers: &[u8]) -> io::Result<()> {
+    while let Some((paper, rest)) = first_paper(papers) {
+        play(rt, paper)?;
+        papers = rest;
     }
     Ok(())
 }

@@ -20,7 +20,8 @@ pub extern "C" fn rate_exp(y: f64) -> f64
     half::logistic::exp(y)
 }
 
-// 0, and the probability in p; or minus the refusal's number, and p is left as it was. (Its parameters are as turmexol.h declares them.)
+// 0, and the probability in p; or minus the refusal's number, and p is left as it was. (Its parameters are as
+// turmexol.h declares them; why it matches: see status.rt.)
 #[unsafe(no_mangle)]
 pub extern "C" fn rate_decode_probability(
     snr_db: f64,

@@ -3,7 +3,7 @@ ghost use Rattle.std.specs.Prelude.{◌≡◌};
 ghost use Rattle.paper.specs.Sheet.{sheet_answer, sheet_left, mark_answer};
 ghost use Rattle.exports.specs.Papers.{sheet_status, mark_status, right_after, counted_after};
 
-use crate::status::minus_number;
+use crate::status::{minus_number, status};
 
 // The sheet's length, and the sheet at the start of out; or minus the refusal's number, and out is left as it was.
 #[unsafe(no_mangle)]
@@ -11,14 +11,11 @@ pub extern "C" fn paper_sheet(question: &[u8], out: &mut [u8]) -> i64
     ensures status { result ≡ sheet_status (sheet_answer question.now out.old) }
     ensures written { out.new ≡ sheet_left question.now out.old }
 {
-    match paper::sheet::sheet(question, out) {
-        // a length past 32 bits does not occur
-        Ok(len) => u32::try_from(len).unwrap_or(u32::MAX) as i64,
-        Err(why) => minus_number(why),
-    }
+    // (A length past 32 bits does not occur; `sheet_status` has the same least of the two.)
+    status(paper::sheet::sheet(question, out).map(|len| u32::try_from(len).unwrap_or(u32::MAX)))
 }
 
-// 0, and the right answers and those that count; or minus the refusal's number, and both are left as they were.
+// 0, and the right answers and those that count; or minus the refusal's number, and both are left as they were. (Why it matches: see status.rt.)
 #[unsafe(no_mangle)]
 pub extern "C" fn paper_mark(
     question: &[u8],

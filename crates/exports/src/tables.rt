@@ -4,7 +4,7 @@ ghost use Rattle.ladder.specs.Front.{usable_of};
 ghost use Rattle.ladder.specs.Tables.{columns, table_verdict};
 ghost use Rattle.exports.specs.Tables.{numbers_of, reading_at, readings_of, echo_column, verdict_status, usable_status, usable_written};
 
-use crate::status::minus_number;
+use crate::status::{minus_number, status};
 use ladder::columns::Columns;
 use ladder::types::Rung;
 use limits::reading::Reading;
@@ -14,11 +14,11 @@ use std::array;
 fn numbers_of(rungs: &[Rung; 32]) -> [u32; 32]
     ensures { result ≡ numbers_of rungs.now }
 {
-    array::from_fn(|i| rungs[i].0)
+    rungs.map(|rung| rung.0)
 }
 
 // The number of rungs on the front, which stand in the first entries of out; or minus the refusal's number, and out is left as it was.
-// (Its parameters are as turmexol.h declares them: each column is a pointer and a length.)
+// (Its parameters are as turmexol.h declares them: each column is a pointer and a length. Why it matches: see status.rt.)
 #[unsafe(no_mangle)]
 pub extern "C" fn rate_usable_modes(
     thresholds: &[f64],
@@ -32,7 +32,7 @@ pub extern "C" fn rate_usable_modes(
     match ladder::front::usable_modes_by_rate(thresholds, payload, frame_s) {
         Ok(front) => {
             *out = numbers_of(&front.rungs);
-            front.count as i64
+            i64::from(front.count)
         }
         Err(why) => minus_number(why),
     }
@@ -56,8 +56,9 @@ fn readings_of(known: &[u8], limits: &[f64]) -> [Reading; 33]
 }
 
 // What `table_for` says of these columns: 0, or minus the refusal's number. Entry i of the echo column is missing where known[i] is 0, else limits[i].
-// (As turmexol.h declares it. C has no Option and no Result: a column is a pointer and a length, a reading a byte and a number in two of them, and the verdict
-// a number.)
+// (As turmexol.h declares it. C has no Option and no Result: a column is a pointer and a length, a reading a byte and a number in two of them, and the
+// verdict a number.)
+#[tactic(auto, unfolding(ladder::specs::Tables::tabled))]
 #[unsafe(no_mangle)]
 pub extern "C" fn rate_table_refusal(
     thresholds: &[f64],
@@ -79,8 +80,5 @@ pub extern "C" fn rate_table_refusal(
         limits: &readings[..known.len().min(33)],
         floors: floor_modes,
     };
-    match ladder::table::table_for(&columns) {
-        Ok(_) => 0,
-        Err(why) => minus_number(why),
-    }
+    status(ladder::table::table_for(&columns).and(Ok(0)))
 }

@@ -8,22 +8,20 @@ use native.Mathlib.Omega.{arith}
 use lib.Dec.{T, leb→le}
 use lib.ListN.{get_or, set}
 use lib.Ieee.{Float, of_bits, of_int, round, neg, add, sub, mul, div, le, lt}
-use lib.Ieee.Fits.{and_l, and_r}
 use Rattle.float.specs.Numbers.{f64, ◌⊕◌, ◌⊖◌, ◌⊗◌, ◌⊘◌, of_nat, f0, f1, f5, f20}
 use Rattle.float.specs.Sum.{total}
 use Rattle.float.proofs.Order.{number, not_lt}
 use Rattle.float.proofs.Rounding.{zero64}
 use Rattle.half.specs.Power.{half}
 use Rattle.half.proofs.Range.{half_share}
-use Rattle.limits.specs.Values.{ok_air, ok_bytes}
-use Rattle.limits.specs.Refusals.{unless}
-use Rattle.limits.specs.declared.refusal.Refusal.TheVariants.{UnknownRung, OutsideLimits}
 use Rattle.std.specs.Prelude.{Ok, None, Some}
-use Rattle.limits.proofs.Verdicts.{or_else_lem, unless_not}
+use Rattle.limits.proofs.Verdicts.{or_else_lem}
 use Rattle.limits.specs.Readings.{Reading, ok_snr}
 use Rattle.ladder.specs.declared.types.Table.{Table}
-use Rattle.ladder.specs.Types.{row, rung_at, rungs_of, places_of, is_floor, in_table}
-use Rattle.ladder.proofs.Cases.{pick, pick_by, no_of}
+use Rattle.ladder.specs.Types.{row, rung_at, rungs_of, places_of, is_floor}
+use Rattle.std.proofs.lemmas.Bool.{cond_both}
+use Rattle.std.proofs.lemmas.Float.{T_from_false}
+use Rattle.ladder.proofs.Cases.{pick}
 use Rattle.ladder.proofs.Entries.{All, all_set}
 use Rattle.account.specs.declared.types.Account.{Account}
 use Rattle.account.specs.declared.types.Offsets.{Offsets}
@@ -34,6 +32,7 @@ use Rattle.rules.specs.declared.types.Frame.{Frame}
 use Rattle.rules.specs.Booking.{at, clamp, moved, offset_step, offsets_from, offsets_at, offsets_after, f12, aged, gained, book_one, book_frame, book, airs, call_air, passed, booked}
 use Rattle.rules.specs.Check.{frame_verdict, first_bad}
 use Rattle.rules.proofs.Fade.{own_fade_lem}
+use Rattle.waiting.proofs.Sound.{frame_ok}
 use Rattle.finite.proofs.Ranges.{Range, ◌to◌, In, bounded, first, second, third, in_by, in_number, in_natural, widen, holds, ◌⊞◌, ◌⊠◌, ◌÷◌, scaled, sums, differences, products, quotients, scales, sum_in, difference_in, product_in, quotient_in, scaled_in, counts}
 use Rattle.finite.proofs.Bounds.{decibels, air_times, account_bytes, account_air, account_frames, capacities, shares, offsets, surprises, times, TableIn, AccountIn, OffsetsIn, Held, all_any}
 use Rattle.finite.proofs.Values.{share_in, chance_in, no_account_in}
@@ -46,10 +45,9 @@ pub record FrameIn (f : Frame) : Type 0 where
 pub frames_in_lem : (t : Table) (fs : List Frame) → first_bad t fs ≡ Ok tt → All FrameIn fs
 frames_in_lem t [] e = tt
 frames_in_lem t (f ∷ fs) e =
-    let ok = ok_air f.air && ok_bytes f.capacity in
     let a = or_else_lem (frame_verdict t f) (first_bad t fs) e in
-    let b = unless_not ok OutsideLimits (or_else_lem (unless (in_table t f.rung.0) UnknownRung) (unless ok OutsideLimits) a.0).1 in
-    (record { air = and_l (ok_air f.air) (ok_bytes f.capacity) b; capacity = leb→le f.capacity 4096 (and_r (ok_air f.air) (ok_bytes f.capacity) b) }, frames_in_lem t fs a.1)
+    let ok = frame_ok t f a.0 in
+    (record { air = ok.0; capacity = leb→le f.capacity 4096 ok.1 }, frames_in_lem t fs a.1)
 
 -- ---- ageing
 -- a frame's own rung ages by half(1/12), 0.9438743126816935
@@ -137,8 +135,8 @@ clamp_ends = (tt, tt, tt, tt)
 
 clamp_in : (x : Float) → T (number x) → In offsets (clamp x)
 clamp_in x n =
-    pick_by (In offsets) (lt x (neg f5)) (λ e. clamp_ends.2)
-    (λ e. pick_by (In offsets) (lt f20 x) (λ d. clamp_ends.3) (λ d. in_by offsets x (not_lt x (neg f5) n clamp_ends.0 (no_of e)) (not_lt f20 x clamp_ends.1 n (no_of d))))
+    cond_both (lt x (neg f5)) _ _ (In offsets) (λ e. clamp_ends.2)
+    (λ e. cond_both (lt f20 x) _ _ (In offsets) (λ d. clamp_ends.3) (λ d. in_by offsets x (not_lt x (neg f5) n clamp_ends.0 (T_from_false _ e)) (not_lt f20 x clamp_ends.1 n (T_from_false _ d))))
 
 move_ends : T (differences shares shares surprises) × T (sums offsets surprises (offsets ⊞ surprises)) × T (bounded (offsets ⊞ surprises)) × In shares f0 × In shares f1
 unfolding of_bits neg add sub le

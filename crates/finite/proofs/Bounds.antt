@@ -16,7 +16,8 @@ use Rattle.ladder.specs.declared.types.Table.{Table}
 use Rattle.ladder.specs.Lists.{every, tabulate}
 use Rattle.ladder.specs.Types.{no_row, row}
 use Rattle.ladder.specs.Tables.{Columns, table_verdict, row_of, rows_of, prior_margin, family_gain, table_of, for_air}
-use Rattle.ladder.proofs.Cases.{pick, yes_of}
+use Rattle.std.proofs.lemmas.Float.{T_from_true}
+use Rattle.ladder.proofs.Cases.{pick}
 use Rattle.ladder.proofs.Entries.{All}
 use Rattle.ladder.proofs.Accepted.{accepted_columns, Within, table_values}
 use Rattle.account.specs.declared.types.Account.{Account}
@@ -145,10 +146,10 @@ module _ (c : Columns) (w : Within c) where
   row_in : (r : ℕ) → RowIn (row_of c r)
   row_in r =
       pick RowIn (ltb r (length c.thresholds)) (record {
-        threshold = every_any ok_db c.thresholds r f0 (yes_of w.thresholds) defaults.0;
-        capacity = leb→le (get_or c.capacities r 0) 4096 (every_any ok_bytes c.capacities r 0 (yes_of w.capacities) tt);
-        time = every_any ok_air c.times r f1 (yes_of w.times) defaults.1;
-        limit = every_any ok_limit c.limits r None (yes_of w.limits) tt;
+        threshold = every_any ok_db c.thresholds r f0 (T_from_true _ w.thresholds) defaults.0;
+        capacity = leb→le (get_or c.capacities r 0) 4096 (every_any ok_bytes c.capacities r 0 (T_from_true _ w.capacities) tt);
+        time = every_any ok_air c.times r f1 (T_from_true _ w.times) defaults.1;
+        limit = every_any ok_limit c.limits r None (T_from_true _ w.limits) tt;
       }) no_row_in
 
 pub made_in : (c : Columns) (wide : Bool) → table_verdict c ≡ Ok tt → TableIn (for_air (table_of c) wide)

@@ -1,23 +1,22 @@
 -- Ranges of floats: what lies between two finite ends, and the ranges of sums, products, differences and quotients. Rounding keeps the order, so an operation's
 -- result lies between the results at the ends, and that those lie in a range is one test that antt computes. Assumes nothing.
 use mathlib.Core.Path.{◌≡◌, refl}
-use mathlib.Core.Logic.{inl, inr}
 use mathlib.Core.Bool.{Bool, true, false, not, ◌&&◌}
 use Prim.Native.Nat.{ℕ, ◌+◌, ◌*◌, ◌≤◌}
-use native.Mathlib.Nat.{lt_irrefl, zero-mul, mul_comm, mul_assoc, mul_left_comm, add-mul, mul-le-mul_right, mul-pos}
+use native.Mathlib.Nat.{zero-mul, mul_comm, mul_assoc, mul_left_comm, add-mul, mul-le-mul_right, mul-pos}
 use native.Mathlib.Omega.{arith}
 use lib.Dec.{T}
-use lib.Pow.{pow_pos}
-use lib.Ieee.{Float, nan, inf, fin, binary64, neg, of_int, le, lt}
+use lib.Ieee.{Float, nan, inf, fin, binary64, neg, le, lt}
 use lib.Ieee.Fits.{and_i, and_l, and_r}
-use lib.Ieee.Order.{round_mono}
 use lib.Ieee.Scale.{finite}
 use lib.Ieee.Positive.{den, den_pos, positive, positive-finite, between}
+use Rattle.std.proofs.lemmas.Float.{lt_irrefl}
 use Rattle.float.specs.Numbers.{◌⊕◌, ◌⊖◌, ◌⊗◌, ◌⊘◌, of_nat, within}
-use Rattle.float.proofs.Order.{plus, minus, number, le→LE, lt→LT, le_le, lt_le_lt, not_lt}
+use Rattle.float.proofs.Order.{plus, minus, number, le→LE, le_le, lt_le_lt, not_lt}
 use Rattle.float.proofs.Rounding.{rounds_mono, mul_rounds, neg_le, zero64}
 use Rattle.float.proofs.Monotone.{natural, cross, no_minus, add_mono_finite, sub_is, neg_finite, mul_mono_finite, between_limits, finite_number}
 use Rattle.float.proofs.Division.{plus_pos, div_rounds, div_mono}
+use Rattle.account.proofs.FullAir.{of_mono}
 
 -- ---- two laws of order more
 -- a factor that is at least 0 keeps the order of values of either sign
@@ -55,9 +54,6 @@ div_anti x y y' fx nx q q' h =
     (simp (zx, zero-mul) (omega (arith, divisors (plus x) (den x) (plus y) (den y) (plus y') (den y') g)))
 
 -- ---- of two numbers, one is above the other exactly where it is not at most the other
-not_both : (x y : Float) → T (lt y x) → T (le x y) → ⊥
-not_both x y h k = elim (lt→LT y y (lt_le_lt y x y h k)) [ inl u ↦ lt_irrefl _ u | inr u ↦ lt_irrefl _ u.1 ]
-
 pub opposite : (a b : Bool) → (T a → T b → ⊥) → (T (not a) → T b) → a ≡ not b
 opposite true true h k = absurd (h tt tt)
 opposite true false h k = refl
@@ -65,7 +61,7 @@ opposite false true h k = refl
 opposite false false h k = absurd (k tt)
 
 pub one_test : (x y : Float) → T (number x) → T (number y) → lt y x ≡ not (le x y)
-one_test x y p q = opposite (lt y x) (le x y) (not_both x y) (not_lt y x q p)
+one_test x y p q = opposite (lt y x) (le x y) (λ h k. lt_irrefl y (lt_le_lt y x y h k)) (not_lt y x q p)
 
 -- ---- ranges
 pub record Range : Type 0 where
@@ -238,6 +234,4 @@ scaled_in f a c x h e =
 
 -- ---- a number as f64
 pub counts : (m n k : ℕ) → m ≤ n → n ≤ k → In (of_nat m to of_nat k) (of_nat n)
-unfolding of_int
-counts m n k h l =
-    in_by (of_nat m to of_nat k) (of_nat n) (round_mono binary64 m 1 n 1 (pow_pos 0) (pow_pos 0) (omega arith)) (round_mono binary64 n 1 k 1 (pow_pos 0) (pow_pos 0) (omega arith))
+counts m n k h l = in_by (of_nat m to of_nat k) (of_nat n) (of_mono m n h) (of_mono n k l)

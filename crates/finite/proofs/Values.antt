@@ -15,7 +15,8 @@ use Rattle.std.specs.Prelude.{Option, None, Some}
 use Rattle.ladder.specs.declared.types.Row.{Row}
 use Rattle.ladder.specs.declared.types.Table.{Table}
 use Rattle.ladder.specs.Types.{row, rung_at, is_floor}
-use Rattle.ladder.proofs.Cases.{pick, pick_by}
+use Rattle.std.proofs.lemmas.Bool.{cond_both}
+use Rattle.ladder.proofs.Cases.{pick}
 use Rattle.ladder.proofs.Entries.{All}
 use Rattle.account.specs.declared.types.Account.{Account}
 use Rattle.account.specs.declared.types.Families.{Families}
@@ -136,7 +137,7 @@ at_least_one (suc n) h = omega arith
 priced_in : (n : ℕ) (time over x : Float) → n ≤ 1000 → In air_times time → In overheads over → In rates x → In values (priced_of n time over x)
 priced_in n time over x hn ht ho hx =
     let a = of_nat n ⊗ time in
-    pick_by (In values) (eqb n 0) (λ e. widen rates values x price_ends.1 hx)
+    cond_both (eqb n 0) _ _ (In values) (λ e. widen rates values x price_ends.1 hx)
     (λ e.
     let b = product_in (of_nat 1 to of_nat 1000) air_times bursts (of_nat n) time (counts 1 n 1000 (at_least_one n (subst (λ (z : Bool). T (not z)) (sym e) tt)) hn) ht burst_ends.0 in
     quotient_in (rates ⊠ bursts) (bursts ⊞ overheads) values (x ⊗ a) (a ⊕ over)

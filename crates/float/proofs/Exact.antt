@@ -18,7 +18,8 @@ use Rattle.float.proofs.Order.{plus, minus, LE→le, le_le}
 use Rattle.float.proofs.Rounding.{rounds_mono, add_rounds, zero64}
 use Rattle.float.proofs.Monotone.{natural, no_minus, add_natural}
 
-digits : (f : Format) (s : Bool) (m : ℕ) (e : ℤ) → T (fits f (fin s (suc m) e)) → (suc m < 2 ^ prec f) × (down e ≤ 2 ^ low f) × (suc m * up e < 2 ^ suc (emax f) * down e)
+-- what `fits` says of the digits and of the exponent
+pub digits : (f : Format) (s : Bool) (m : ℕ) (e : ℤ) → T (fits f (fin s (suc m) e)) → (suc m < 2 ^ prec f) × (down e ≤ 2 ^ low f) × (suc m * up e < 2 ^ suc (emax f) * down e)
 unfolding fits
 digits f s m e t =
     let a : Bool = eqb (suc m % 2) 1 in

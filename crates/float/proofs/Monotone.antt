@@ -223,9 +223,6 @@ pub zero_is : of_bits binary64 0 ≡ zero64
 unfolding of_bits
 zero_is = refl
 
-pub as_natural : (x : Float) → T (le (of_bits binary64 0) x) → natural x
-as_natural x h = subst (λ (z : Float). T (le z x)) zero_is h
-
 -- ---- the product of values that are at least 0, infinities included
 no_digits : (n : ℕ) (d : ℤ) → natural (fin true n d) → T (eqb n 0)
 no_digits n d h = eq→eqb {a = n} {b = 0} (eq_of_mul-eq-mul_right (up d) (up_pos d) n 0 (no_minus (fin true n d) tt h ∙ sym (zero-mul (up d))))

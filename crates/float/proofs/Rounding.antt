@@ -2,7 +2,7 @@
 use mathlib.Core.Path.{◌≡◌, refl, sym, ap, ◌∙◌, subst}
 use mathlib.Core.Logic.{◌⊎◌, inl, inr}
 use Prim.Native.Nat.{ℕ, zero, suc, ◌+◌, ◌-◌, ◌*◌, ◌^◌, ◌≤◌, ◌<◌, zero-le}
-use native.Mathlib.Nat.{le_refl, le_of_eq, le_trans, zero-mul, mul-zero, mul_comm, mul-sub, mul-le-mul_right, eq_of_mul-eq-mul_right}
+use native.Mathlib.Nat.{le_refl, le_of_eq, le_trans, zero-mul, mul-zero, mul_comm, mul-sub, mul-le-mul_right, eq_of_mul-eq-mul_right, not-le_of_lt}
 use native.Mathlib.Omega.{arith}
 use mathlib.Core.Bool.{Bool, true, false, not, cond}
 use lib.Dec.{T, ltb, ltb→lt, nltb→le}
@@ -13,7 +13,7 @@ use lib.Ieee.Fits.{round_is}
 use lib.Ieee.Order.{round_mono}
 use lib.Ieee.Scale.{round_same, finite}
 use lib.Ieee.Positive.{den}
-use Rattle.float.proofs.Order.{P, N, plus, minus, number, Le, le→LE, LE→le, le_le, le_left, le_right}
+use Rattle.float.proofs.Order.{P, N, P-mul, N-mul, plus, minus, number, Le, le→LE, LE→le, le_le, le_left, le_right}
 
 -- ---- `neg` turns the order round
 pub neg_number : (x : Float) → T (number x) → T (number (neg x))
@@ -84,7 +84,7 @@ round_at_least f a c C = subst (λ (z : Float). T (le z (round f false a c))) (r
 abbrev pub Rounds : Format → ℕ → ℕ → ℕ → Float → Type 0
 Rounds f p n c x = ((n ≤ p) × (x ≡ round f false (p - n) c)) ⊎ ((p ≤ n) × (x ≡ round f true (n - p) c))
 
-sub_mul : (a b c : ℕ) → (a - b) * c ≡ a * c - b * c
+pub sub_mul : (a b c : ℕ) → (a - b) * c ≡ a * c - b * c
 sub_mul a b c = mul_comm (a - b) c ∙ mul-sub c a b ∙ ap (λ (z : ℕ). z - c * b) (mul_comm c a) ∙ ap (λ (z : ℕ). a * c - z) (mul_comm c b)
 
 differences : (p n c p' n' c' : ℕ) → n ≤ p → n' ≤ p' → p * c' + n' * c ≤ p' * c + n * c' → (p - n) * c' ≤ (p' - n') * c
@@ -100,9 +100,6 @@ both_zero p n c p' n' c' C C' h k l =
     let e : p ≡ n = eq_of_mul-eq-mul_right c' C' p n (omega arith) in
     let g : p' ≡ n' = eq_of_mul-eq-mul_right c C p' n' (omega arith) in
     (omega arith, omega arith)
-
-swap : (p n c p' n' c' : ℕ) → p * c' + n' * c ≤ p' * c + n * c' → n' * c + p * c' ≤ n * c' + p' * c
-swap p n c p' n' c' h = omega arith
 
 pub rounds_mono : (f : Format) (p n c p' n' c' : ℕ) (x x' : Float) → 0 < c → 0 < c' → Rounds f p n c x → Rounds f p' n' c' x' → p * c' + n' * c ≤ p' * c + n * c' → T (le x x')
 rounds_mono f p n c p' n' c' x x' C C' (inl u) (inl v) h =
@@ -127,6 +124,15 @@ as_plus f p n a c x h e g = inl (h, g ∙ ap (λ (k : ℕ). round f false k c) e
 as_minus : (f : Format) (p n a c : ℕ) (x : Float) → p ≤ n → a ≡ n - p → x ≡ round f true a c → Rounds f p n c x
 as_minus f p n a c x h e g = inr (h, g ∙ ap (λ (k : ℕ). round f true k c) e)
 
+-- less a magnitude that is no larger
+pub sum_less : (f : Format) (a b c : ℕ) → b ≤ a → sum f false a true b c ≡ round f false (a - b) c
+unfolding sum
+sum_less f a b c h = go (ltb a b) (ltb→lt a b)
+  where
+    go : (t : Bool) → (T t → a < b) → cond t (round f true (b - a) c) (round f false (a - b) c) ≡ round f false (a - b) c
+    go true k = absurd (not-le_of_lt (k tt) h)
+    go false k = refl
+
 sum_rounds : (f : Format) (s : Bool) (a : ℕ) (t : Bool) (b c : ℕ) → Rounds f (P s a + P t b) (N s a + N t b) c (sum f s a t b c)
 unfolding sum
 sum_rounds f false a false b c = as_plus f (a + b) 0 (a + b) c (round f false (a + b) c) zero-le (omega arith) refl
@@ -142,14 +148,6 @@ sum_rounds f true a false b c = go (ltb a b) (ltb b a) (ltb→lt a b) (nltb→le
     go true v l g k = let h = l tt in as_plus f (0 + b) (a + 0) (b - a) c (round f false (b - a) c) (omega arith) (omega arith) refl
     go false true l g k = let h = g tt in as_minus f (0 + b) (a + 0) (a - b) c (round f true (a - b) c) (omega arith) (omega arith) refl
     go false false l g k = let h = g tt in let i = k tt in as_plus f (0 + b) (a + 0) (a - b) c (round f false (a - b) c) (omega arith) (omega arith) refl
-
-P-mul : (s : Bool) (a k : ℕ) → P s (a * k) ≡ P s a * k
-P-mul false a k = refl
-P-mul true a k = sym (zero-mul k)
-
-N-mul : (s : Bool) (a k : ℕ) → N s (a * k) ≡ N s a * k
-N-mul false a k = sym (zero-mul k)
-N-mul true a k = refl
 
 pub add_rounds : (f : Format) (x y : Float) → T (finite x) → T (finite y) → Rounds f (plus x * den y + plus y * den x) (minus x * den y + minus y * den x) (den x * den y) (add f x y)
 unfolding add

@@ -1,13 +1,10 @@
--- Two floats that a test finds the same, sign, digits and exponent, are equal as data. And a test that passes at each number below n. Assumes nothing.
-use mathlib.Core.Path.{◌≡◌, refl, sym, ap, subst}
-use mathlib.Core.Bool.{Bool, true, false}
-use mathlib.Core.Logic.{inl, inr}
-use Prim.Native.Nat.{ℕ, zero, suc, ◌<◌}
-use native.Mathlib.Nat.{not-suc-le-zero, le_of_suc-le-suc, eq-or-lt_of_le}
+-- Two floats that a test finds the same, sign, digits and exponent, are equal as data. Assumes nothing.
+use mathlib.Core.Path.{◌≡◌, refl, ap}
+use mathlib.Core.Bool.{Bool, true, false, ◌&&◌}
 use lib.Dec.{T, eqb, eqb→eq}
 use lib.IntN.{ℤ, pos, negsuc}
 use lib.Ieee.{Float, nan, inf, fin}
-use Rattle.float.proofs.Table.{both, both_left, both_right}
+use lib.Ieee.Fits.{and_l, and_r}
 
 abbrev pub same_sign : Bool → Bool → Bool
 same_sign true t = t
@@ -29,7 +26,7 @@ same (inf s) (inf t) = same_sign s t
 same (inf s) (fin t n d) = false
 same (fin s m e) nan = false
 same (fin s m e) (inf t) = false
-same (fin s m e) (fin t n d) = both (same_sign s t) (both (eqb m n) (same_exponent e d))
+same (fin s m e) (fin t n d) = same_sign s t && (eqb m n && same_exponent e d)
 
 sign : (s t : Bool) → T (same_sign s t) → s ≡ t
 sign true true h = refl
@@ -53,21 +50,8 @@ same→eq (inf s) (fin t n d) h = absurd h
 same→eq (fin s m e) nan h = absurd h
 same→eq (fin s m e) (inf t) h = absurd h
 same→eq (fin s m e) (fin t n d) h =
-    let p = sign s t (both_left (same_sign s t) (both (eqb m n) (same_exponent e d)) h) in
-    let r = both_right (same_sign s t) (both (eqb m n) (same_exponent e d)) h in
-    let q = eqb→eq m n (both_left (eqb m n) (same_exponent e d) r) in
-    let w = exponent e d (both_right (eqb m n) (same_exponent e d) r) in
+    let p = sign s t (and_l (same_sign s t) (eqb m n && same_exponent e d) h) in
+    let r = and_r (same_sign s t) (eqb m n && same_exponent e d) h in
+    let q = eqb→eq m n (and_l (eqb m n) (same_exponent e d) r) in
+    let w = exponent e d (and_r (eqb m n) (same_exponent e d) r) in
     cc
-
--- ---- a test at each number below n
-abbrev pub all : (ℕ → Bool) → ℕ → Bool
-all f zero = true
-all f (suc n) = both (f n) (all f n)
-
-pub all_at : (f : ℕ → Bool) (n : ℕ) → T (all f n) → (k : ℕ) → k < n → T (f k)
-all_at f zero t k h = absurd (not-suc-le-zero h)
-all_at f (suc n) t k h =
-    elim (eq-or-lt_of_le (le_of_suc-le-suc h)) [
-      | inl e ↦ subst (λ (m : ℕ). T (f m)) (sym e) (both_left (f n) (all f n) t)
-      | inr l ↦ all_at f n (both_right (f n) (all f n) t) k l
-    ]

@@ -3,20 +3,19 @@
 use mathlib.Core.Path.{◌≡◌, refl, sym, ap, ◌∙◌, subst}
 use mathlib.Core.Logic.{inl, inr}
 use Prim.Native.Nat.{ℕ, zero, suc, ◌+◌, ◌-◌, ◌*◌, ◌^◌, ◌≤◌, ◌<◌, zero-le}
-use native.Mathlib.Nat.{le_refl, le_of_eq, le_trans, zero-mul, mul-zero, mul-one, one-mul, mul_assoc, mul_right_comm, add-mul, mul-le-mul_left, mul-pos, lt_of_lt_of_le, not-le_of_lt}
+use native.Mathlib.Nat.{le_refl, le_of_eq, le_trans, zero-mul, mul-zero, mul-one, one-mul, mul_assoc, mul_right_comm, add-mul, mul-le-mul_left, mul-pos, lt_of_lt_of_le}
 use native.Mathlib.Omega.{arith}
 use mathlib.Core.Bool.{Bool, true, false, not, cond}
-use lib.Dec.{T, ltb, eqb, ltb→lt, eqb→eq}
+use lib.Dec.{T, ltb, eqb, eqb→eq}
 use lib.IntN.{ℤ, pos}
 use lib.Pow.{pow_pos}
-use lib.Ieee.{Float, nan, inf, fin, Format, binary64, prec, low, emax, up, down, odd, units, round, neg, sum, add, sub, mul, div, le, of_bits, fits}
+use lib.Ieee.{Float, nan, inf, fin, Format, binary64, prec, low, emax, up, down, odd, units, round, neg, sum, add, sub, mul, div, le, fits}
 use lib.Ieee.Fits.{round_is, down_pos}
 use lib.Ieee.Order.{round_mono, le_of_values}
 use lib.Ieee.Scale.{finite}
 use lib.Ieee.Positive.{den, den_pos, positive}
-use Rattle.float.specs.Numbers.{f64}
 use Rattle.float.proofs.Order.{P, plus, minus, le→LE, LE→le, le_le}
-use Rattle.float.proofs.Rounding.{rounds_mono, mul_rounds, neg_le, zero64, round_zero}
+use Rattle.float.proofs.Rounding.{sum_less, rounds_mono, mul_rounds, neg_le, zero64, round_zero}
 use Rattle.float.proofs.Monotone.{natural, cross, no_minus, add_mono_finite, sub_is, neg_finite, mul_mono_finite, mul_natural, rounds_natural}
 use Rattle.float.proofs.Exact.{exact}
 use Rattle.float.proofs.Division.{nonzero, plus_pos, div_rounds, div_mono}
@@ -114,12 +113,7 @@ mul_share x y h k =
 
 -- ---- 1 - x
 sum_plain : (a b c : ℕ) → b ≤ a → T (plain (sum binary64 false a true b c))
-unfolding sum
-sum_plain a b c h = go (ltb a b) (ltb→lt a b)
-  where
-    go : (t : Bool) → (T t → a < b) → T (plain (cond t (round binary64 true (b - a) c) (round binary64 false (a - b) c)))
-    go true l = absurd (not-le_of_lt (l tt) h)
-    go false l = round_plain binary64 (a - b) c
+sum_plain a b c h = rw (sum_less binary64 a b c h) (round_plain binary64 (a - b) c)
 
 less_plain : (x : Float) → T (finite x) → T (le x one64) → T (plain (sub binary64 one64 x))
 unfolding sub
@@ -168,11 +162,6 @@ div_small x y h q k =
       rounds_natural binary64 (plus x * den y) (minus x * den y) (plus y * den x) (div binary64 x y) (mul-pos (plus_pos y q) (den_pos x)) (simp (no_minus x fx h.0, zero-mul) zero-le) (div_rounds binary64 x y fx q),
       le_le (div binary64 x y) (div binary64 one64 y) one64 (div_mono binary64 x one64 y fx tt q h.1) k,
     )
-
--- the code's 1.0
-pub one_is : f64 0x3ff0_0000_0000_0000 ≡ one64
-unfolding of_bits
-one_is = refl
 
 -- ---- products that may be infinite
 pub mul_up : (x c : Float) → natural x → T (positive c) → natural (mul binary64 x c)

@@ -1,22 +1,20 @@
 -- Floats with a clear sign as fractions a / c: those that fit and are the same fraction are equal, their order is that of the fractions, a difference and a product are
 -- one rounding, and q / 2 ^ k with no more digits than the format keeps is exact. Assumes nothing.
-use Rattle.std.proofs.Common.{◌≡◌, ℕ, ◌+◌, ◌-◌, ◌*◌, ◌/◌, ◌^◌, ◌<◌, ◌≤◌, min, Bool, true, false, cond, T, ltb, ℤ, sym, refl, ap, ◌∙◌, inl, inr, true≢false, lt_of_lt_of_le, lt_irrefl, mul-le-mul_right, mul_assoc, mul_comm, mul-pos, mul_right_comm, not-le_of_lt, le_of_mul-le-mul_right, arith, ltb→lt, pow_pos, pow_mono, pow-add, shl_lt}
-use native.Mathlib.Nat.{mul-sub, mul-div-mul_right, mul-mul-mul_comm}
+use Rattle.std.proofs.Common.{◌≡◌, ℕ, ◌+◌, ◌-◌, ◌*◌, ◌/◌, ◌^◌, ◌<◌, ◌≤◌, min, Bool, true, false, cond, T, ℤ, sym, refl, ap, ◌∙◌, inl, inr, true≢false, lt_of_lt_of_le, lt_irrefl, mul-le-mul_right, mul_assoc, mul_comm, mul-pos, mul_right_comm, le_of_mul-le-mul_right, arith, pow_pos, pow_mono, pow-add, shl_lt}
+use native.Mathlib.Nat.{mul-mul-mul_comm}
 use lib.Ieee.{Float, nan, inf, fin, Format, binary64, prec, low, up, down, size, hid, top, round, sum, sub, mul, le, fits, of_bits, to_bits, to_unsigned}
 use lib.Ieee.Fits.{down_pos, round-fits}
 use lib.Ieee.Bits.{of_bits-to_bits}
 use lib.Ieee.Exact.{HasValue, round_exact}
+use lib.Ieee.Nearest.{div_same}
 use lib.Ieee.Order.{transfer, le_of_values}
 use lib.Ieee.Scale.{round_same}
 use Rattle.float.proofs.Order.{le→LE}
+use Rattle.float.proofs.Rounding.{sub_mul, sum_less}
 use Rattle.float.proofs.Exact.{exact}
 
 -- ---- one fraction, one float
--- the whole part is the same of two ways to write a fraction
-floor : (x e q d : ℕ) → 0 < e → 0 < d → x * d ≡ q * e → x / e ≡ q / d
-floor x e q d E D h = sym (mul-div-mul_right x e D) ∙ ap (λ (z : ℕ). z / (e * d)) h ∙ ap (λ (z : ℕ). q * e / z) (mul_comm e d) ∙ mul-div-mul_right q d E
-
--- so the bit pattern is, which goes by how many of the format's smallest values a float has
+-- the bit pattern goes by how many of the format's smallest values a float has
 abbrev pattern : Format → Bool → ℕ → ℕ
 pattern f s n = cond s (top f) 0 + (size n - prec f) * hid f + n / 2 ^ (size n - prec f)
 
@@ -26,7 +24,7 @@ bits_at f nan s a c C h = absurd h
 bits_at f (inf t) s a c C h = absurd h
 bits_at f (fin t m e) s a c C h =
     ap (λ (b : Bool). pattern f b (m * up e * 2 ^ low f / down e)) h.0
-    ∙ ap (pattern f s) (floor (m * up e * 2 ^ low f) (down e) (a * 2 ^ low f) c (down_pos e) C
+    ∙ ap (pattern f s) (div_same (m * up e * 2 ^ low f) (down e) (a * 2 ^ low f) c (down_pos e) C
     (mul_right_comm (m * up e) (2 ^ low f) c ∙ ap (λ (z : ℕ). z * 2 ^ low f) h.1 ∙ mul_right_comm a (down e) (2 ^ low f)))
 
 unique : (f : Format) (x y : Float) (s : Bool) (a c : ℕ) → 0 < c → T (fits f x) → T (fits f y) → HasValue x s a c → HasValue y s a c → x ≡ y
@@ -47,28 +45,17 @@ shape (fin false m e) a c h = (m, e, refl, h.1)
 pub crossed : (m : ℕ) (e : ℤ) (n : ℕ) (d : ℤ) → T (le (fin false m e) (fin false n d)) → m * up e * down d ≤ n * up d * down e
 crossed m e n d l = elim (le→LE (fin false m e) (fin false n d) l) [ inl u ↦ absurd (lt_irrefl 1 u) | inr u ↦ let v = u.1 in omega arith ]
 
-pick : (f : Format) (a b c : ℕ) → b ≤ a → sum f false a true b c ≡ round f false (a - b) c
-unfolding sum
-pick f a b c h = go (ltb a b) (ltb→lt a b)
-  where
-    go : (t : Bool) → (T t → a < b) → cond t (round f true (b - a) c) (round f false (a - b) c) ≡ round f false (a - b) c
-    go true k = absurd (not-le_of_lt (k tt) h)
-    go false k = refl
-
 opened : (f : Format) (m : ℕ) (e : ℤ) (n : ℕ) (d : ℤ) → sub f (fin false m e) (fin false n d) ≡ sum f false (m * up e * down d) true (n * up d * down e) (down e * down d)
 unfolding sub
 opened f m e n d = refl
 
-less_mul : (a b c : ℕ) → (a - b) * c ≡ a * c - b * c
-less_mul a b c = mul_comm (a - b) c ∙ mul-sub c a b ∙ ap (λ (z : ℕ). z - c * b) (mul_comm c a) ∙ ap (λ (z : ℕ). a * c - z) (mul_comm c b)
-
 -- (x dd - y de) / (de dd) is (a - b) / c
 over : (x y de dd a b c : ℕ) → x * c ≡ a * de → y * c ≡ b * dd → (x * dd - y * de) * c ≡ (a - b) * (de * dd)
 over x y de dd a b c h k =
-    less_mul (x * dd) (y * de) c
+    sub_mul (x * dd) (y * de) c
     ∙ ap (λ (z : ℕ). z - y * de * c) (mul_right_comm x dd c ∙ ap (λ (z : ℕ). z * dd) h ∙ mul_assoc a de dd)
     ∙ ap (λ (z : ℕ). a * (de * dd) - z) (mul_right_comm y de c ∙ ap (λ (z : ℕ). z * de) k ∙ mul_assoc b dd de ∙ ap (λ (z : ℕ). b * z) (mul_comm dd de))
-    ∙ sym (less_mul a b (de * dd))
+    ∙ sym (sub_mul a b (de * dd))
 
 module _ (x y : Float) (a b c : ℕ) (C : 0 < c) (h : HasValue x false a c) (k : HasValue y false b c) where
   pub le_at : a ≤ b → T (le x y)
@@ -90,7 +77,7 @@ module _ (x y : Float) (a b c : ℕ) (C : 0 < c) (h : HasValue x false a c) (k :
       let E = down v.1 in
       ap (λ (z : Float). sub f z y) u.2 ∙ ap (λ (z : Float). sub f (fin false u.0 u.1) z) v.2
       ∙ opened f u.0 u.1 v.0 v.1
-      ∙ pick f (X * E) (Y * D) (D * E) (transfer Y X E D b a c c C C v.3 u.3 (mul-le-mul_right c l))
+      ∙ sum_less f (X * E) (Y * D) (D * E) (transfer Y X E D b a c c C C v.3 u.3 (mul-le-mul_right c l))
       ∙ round_same f false (X * E - Y * D) (D * E) (a - b) c (mul-pos (down_pos u.1) (down_pos v.1)) C (over X Y D E a b c u.3 v.3)
 
 -- a product
@@ -120,7 +107,7 @@ unfolding to_unsigned
 whole_at nan a c C h l = absurd h
 whole_at (inf s) a c C h l = absurd h
 whole_at (fin true m e) a c C h l = absurd (true≢false h.0)
-whole_at (fin false m e) a c C h l = ap (λ (z : ℕ). min z (2 ^ 64 - 1)) (floor (m * up e) (down e) a c (down_pos e) C h.1) ∙ uncapped (a / c) (2 ^ 64) l
+whole_at (fin false m e) a c C h l = ap (λ (z : ℕ). min z (2 ^ 64 - 1)) (div_same (m * up e) (down e) a c (down_pos e) C h.1) ∙ uncapped (a / c) (2 ^ 64) l
 
 -- the same size over a larger power of two
 pub widen : (x : Float) (a l d : ℕ) → HasValue x false a (2 ^ l) → HasValue x false (a * 2 ^ d) (2 ^ (l + d))

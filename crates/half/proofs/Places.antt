@@ -1,12 +1,13 @@
 -- A float above 0 and below 2 ^ n / 2 ^ l is q / 2 ^ (l + d) for some d, with q of no more digits than the format keeps: the places of its own exponent,
 -- or the first l where it has fewer. Assumes nothing.
-use Rattle.std.proofs.Common.{◌≡◌, ℕ, zero, suc, ◌+◌, ◌-◌, ◌*◌, ◌%◌, ◌^◌, ◌<◌, ◌≤◌, Bool, false, ◌&&◌, T, eqb, ltb, leb, ℤ, pos, negsuc, sym, ap, ◌∙◌, le_of_eq, lt_of_lt_of_le, le_of_suc-le-suc, lt_of_le_of_lt, add-zero, mul_assoc, mul_comm, lt_of_mul-lt-mul_right, lt_of_not-le, mul-one, not-le_of_lt, arith, ltb→lt, leb→le, pow_pos, pow_mono, pow-add}
+use Rattle.std.proofs.Common.{◌≡◌, ℕ, zero, suc, ◌+◌, ◌-◌, ◌*◌, ◌^◌, ◌<◌, ◌≤◌, false, T, ℤ, pos, negsuc, sym, ap, ◌∙◌, le_of_eq, lt_of_lt_of_le, le_of_suc-le-suc, lt_of_le_of_lt, add-zero, mul_assoc, mul_comm, lt_of_mul-lt-mul_right, lt_of_not-le, mul-one, not-le_of_lt, arith, pow_pos, pow_mono, pow-add}
 use native.Mathlib.Decide.{dec_le}
 use lib.Pow.{pow-lt}
 use lib.Ieee.{Float, fin, binary64, round, up, down, fits}
-use lib.Ieee.Fits.{and_l, and_r, down_pos}
+use lib.Ieee.Fits.{down_pos}
 use lib.Ieee.Scale.{round_same}
 use lib.Ieee.Positive.{positive}
+use Rattle.float.proofs.Exact.{digits}
 use Rattle.half.proofs.Fraction.{own, F}
 
 -- x is q / 2 ^ (l + d), exactly, and below 2 ^ n / 2 ^ l
@@ -17,16 +18,6 @@ pub record Places (l n : ℕ) (x : Float) : Type 0 where
   pub fine : l + d ≤ 1074
   pub digits : q < 2 ^ 53
   pub small : q < 2 ^ n * 2 ^ d
-
--- what `fits` says of the digits and of the places
-kept : (m : ℕ) (e : ℤ) → T (fits binary64 (fin false (suc m) e)) → (suc m < 2 ^ 53) × (down e ≤ 2 ^ 1074)
-unfolding fits
-kept m e t =
-    let a : Bool = eqb (suc m % 2) 1 in
-    let b : Bool = ltb (suc m) (2 ^ 53) in
-    let c : Bool = leb (down e) (2 ^ 1074) in
-    let u = and_l (a && b && c) (ltb (suc m * up e) (2 ^ 1024 * down e)) t in
-    (ltb→lt (suc m) (2 ^ 53) (and_r a b (and_l (a && b) c u)), leb→le (down e) (2 ^ 1074) (and_r (a && b) c u))
 
 module _ (l n m : ℕ) (e : ℤ) (t : T (fits binary64 (fin false m e))) (h : m * up e * 2 ^ l < 2 ^ n * down e) where
   -- at most l places
@@ -63,8 +54,8 @@ places l n (suc m) (negsuc k) L N p t h =
     elim (dec_le l (suc k)) [
       | yes y ↦
           let g : l + (suc k - l) ≡ suc k = omega arith in
-          let r : suc k ≤ 1074 = le_of_suc-le-suc (lt_of_not-le (λ (z : 1075 ≤ suc k). not-le_of_lt (pow-lt z) (kept m (negsuc k) t).1)) in
-          many l n (suc m) (negsuc k) t h (suc k - l) (ap (λ (z : ℕ). 2 ^ z) (sym g)) (omega arith) (lt_of_le_of_lt (le_of_eq (mul-one (suc m))) (kept m (negsuc k) t).0)
+          let r : suc k ≤ 1074 = le_of_suc-le-suc (lt_of_not-le (λ (z : 1075 ≤ suc k). not-le_of_lt (pow-lt z) (digits binary64 false m (negsuc k) t).1)) in
+          many l n (suc m) (negsuc k) t h (suc k - l) (ap (λ (z : ℕ). 2 ^ z) (sym g)) (omega arith) (lt_of_le_of_lt (le_of_eq (mul-one (suc m))) (digits binary64 false m (negsuc k) t).0)
       | no z ↦
           let w = lt_of_not-le z in
           let g : suc k + (l - suc k) ≡ l = omega arith in

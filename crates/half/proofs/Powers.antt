@@ -1,9 +1,10 @@
 -- The rule of the table H, tested once over all of its entries by 256th powers of whole numbers, and carried to each entry. Assumes nothing.
-use Rattle.std.proofs.Common.{◌≡◌, ℕ, zero, suc, ◌+◌, ◌-◌, ◌*◌, ◌/◌, ◌^◌, ◌<◌, ◌≤◌, Bool, true, false, T, eqb, ltb, length, ℤ, pos, sym, refl, subst, lt_of_lt_of_le, le_of_suc-le-suc, le_of_lt, le_antisymm, lt_of_not-le, not-le_of_lt, arith, eqb→eq, ltb→lt}
+use Rattle.std.proofs.Common.{◌≡◌, ℕ, zero, suc, ◌+◌, ◌-◌, ◌*◌, ◌/◌, ◌^◌, ◌<◌, ◌≤◌, Bool, true, false, ◌&&◌, T, eqb, ltb, length, ℤ, pos, sym, refl, subst, lt_of_lt_of_le, le_of_suc-le-suc, le_of_lt, le_antisymm, lt_of_not-le, not-le_of_lt, arith, eqb→eq, ltb→lt}
 use native.Mathlib.Nat.{pow-le-pow_left}
 use lib.Ieee.{Float, nan, inf, fin, up, down, of_bits}
 use Rattle.half.specs.Powers.{powers, power_at, Nearest}
-use Rattle.float.proofs.Table.{both, both_left, both_right, every, at}
+use lib.Ieee.Fits.{and_l, and_r}
+use Rattle.float.proofs.Table.{every, at}
 
 -- m, for a value m / 2 ^ 53
 abbrev whole : ℕ → ℤ → ℕ
@@ -24,7 +25,7 @@ right zero x = true
 right (suc j) nan = false
 right (suc j) (inf s) = false
 right (suc j) (fin true m e) = false
-right (suc j) (fin false m e) = both (exact m e) (both (under (suc j) (whole m e)) (over (suc j) (whole m e)))
+right (suc j) (fin false m e) = exact m e && (under (suc j) (whole m e) && over (suc j) (whole m e))
 
 -- the test, over the whole table
 passes : T (every nan right 0 powers)
@@ -39,12 +40,12 @@ holds j (inf s) t = absurd t
 holds j (fin true m e) t = absurd t
 holds j (fin false m e) t =
     let w = whole m e in
-    let rest = both_right (exact m e) (both (under (suc j) w) (over (suc j) w)) t in
+    let rest = and_r (exact m e) (under (suc j) w && over (suc j) w) t in
     record {
       m = w;
-      value = (refl, eqb→eq (m * up e * 2 ^ 53) (w * down e) (both_left (exact m e) (both (under (suc j) w) (over (suc j) w)) t));
-      below = ltb→lt ((2 * w - 1) ^ 256) (2 ^ (13824 - suc j)) (both_left (under (suc j) w) (over (suc j) w) rest);
-      above = ltb→lt (2 ^ (13824 - suc j)) ((2 * w + 1) ^ 256) (both_right (under (suc j) w) (over (suc j) w) rest);
+      value = (refl, eqb→eq (m * up e * 2 ^ 53) (w * down e) (and_l (exact m e) (under (suc j) w && over (suc j) w) t));
+      below = ltb→lt ((2 * w - 1) ^ 256) (2 ^ (13824 - suc j)) (and_l (under (suc j) w) (over (suc j) w) rest);
+      above = ltb→lt (2 ^ (13824 - suc j)) ((2 * w + 1) ^ 256) (and_r (under (suc j) w) (over (suc j) w) rest);
     }
 
 pub sized : length powers ≡ 256

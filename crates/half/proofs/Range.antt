@@ -1,17 +1,19 @@
 -- `half`, and so a probability, lies from 0 to 1. What is left after the steps is at most the last step, so the series is a share (`Rattle.float.proofs.Share`), and so
 -- are the table's entries, the powers of two and their products. Assumes nothing.
-use Rattle.std.proofs.Common.{◌≡◌, ℕ, zero, suc, ◌+◌, ◌*◌, ◌/◌, ◌^◌, ◌<◌, min, Bool, true, false, cond, not, T, sym, refl, subst, arith, lit<, pow_pos}
+use Rattle.std.proofs.Common.{◌≡◌, ℕ, zero, suc, ◌+◌, ◌*◌, ◌/◌, ◌^◌, ◌<◌, min, Bool, true, false, cond, not, ◌&&◌, T, sym, refl, subst, arith, lit<, pow_pos}
 use lib.Ieee.{Float, nan, binary64, neg, sub, mul, div, le, lt, of_bits, fits}
+use lib.Ieee.Fits.{and_l, and_r}
 use lib.Ieee.Scale.{finite}
 use lib.Ieee.Positive.{positive}
 use Rattle.float.specs.Numbers.{f64, ◌⊕◌, ◌⊖◌, ◌⊗◌, ◌⊘◌, f0, f½, f1, f2, f5}
-use Rattle.float.proofs.Table.{both, both_left, both_right, every, at}
+use Rattle.std.proofs.lemmas.Float.{one_f64_is}
+use Rattle.float.proofs.Table.{every, at}
 use Rattle.float.proofs.Order.{number, le_le, le_left, le_right, lt_le, not_le}
 use Rattle.float.proofs.Rounding.{zero64, neg_number}
 use Rattle.float.proofs.Monotone.{natural, sub_mono, sub_number, zero_is, finite_number}
 use Rattle.float.proofs.Exact.{grows}
 use Rattle.float.proofs.Division.{div_number}
-use Rattle.float.proofs.Share.{one64, plain, plain_natural, Share, UpTo, Small, share_small, round_share, mul_small, mul_share, less_share, div_plain, div_small, one_is, mul_up, one_by, neg_natural, inverse_from_one}
+use Rattle.float.proofs.Share.{one64, plain, plain_natural, Share, UpTo, Small, share_small, round_share, mul_small, mul_share, less_share, div_plain, div_small, mul_up, one_by, neg_natural, inverse_from_one}
 use Rattle.half.specs.Powers.{powers, power_at}
 use Rattle.half.specs.Power.{f512, f1022, ln2, f3, f4, descent, whole_steps, part_steps, level, series_in, series, inverse_power, joined, half}
 use Rattle.half.specs.Logistic.{log2e, f9, f40, exp, logistic, decode_probability, FromZeroToOne}
@@ -26,7 +28,7 @@ unfolding of_bits div le
 divisors = ((tt, tt), (tt, tt), (tt, tt), (tt, tt))
 
 from_one : (x : Float) → Small x → Share (f1 ⊖ x)
-from_one x h = subst (λ (o : Float). Share (o ⊖ x)) (sym one_is) (less_share x h)
+from_one x h = subst (λ (o : Float). Share (o ⊖ x)) (sym one_f64_is) (less_share x h)
 
 level_share : (v rest : Float) → Small v → Share rest → Share (level v rest)
 level_share v rest h k = from_one (v ⊗ rest) (mul_small v rest h (share_small rest k))
@@ -64,11 +66,11 @@ abbrev cancels : Float → Bool
 cancels s = le zero64 (s ⊖ s)
 
 abbrev right : Float → Float → Bool
-right s d = both (finite s) (both (halves s d) (cancels s))
+right s d = finite s && (halves s d && cancels s)
 
 unfoldable fine : ℕ → Float → Float → Bool
 fine zero s d = true
-fine (suc left) s d = both (right s d) (fine left (s ⊗ f½) s)
+fine (suc left) s d = right s d && fine left (s ⊗ f½) s
 
 -- the last step
 unfoldable final : ℕ → Float → Float → Float
@@ -79,11 +81,11 @@ descent_in : (left : ℕ) (s d : Float) (w : ℕ) (r : Float) (k : ℕ) → T (f
 unfolding descent fine final
 descent_in zero s d w r k t h = h
 descent_in (suc left) s d w r k t h =
-    let a = both_left (right s d) (fine left (s ⊗ f½) s) t in
-    let fs = both_left (finite s) (both (halves s d) (cancels s)) a in
-    let b = both_right (finite s) (both (halves s d) (cancels s)) a in
-    descent_in left (s ⊗ f½) s (w / 2) (cond (le s r) (r ⊖ s) r) (cond (le s r) (k + w) k) (both_right (right s d) (fine left (s ⊗ f½) s) t)
-    (step_in r s d h.0 h.1 fs (both_left (halves s d) (cancels s) b) (both_right (halves s d) (cancels s) b)
+    let a = and_l (right s d) (fine left (s ⊗ f½) s) t in
+    let fs = and_l (finite s) (halves s d && cancels s) a in
+    let b = and_r (finite s) (halves s d && cancels s) a in
+    descent_in left (s ⊗ f½) s (w / 2) (cond (le s r) (r ⊖ s) r) (cond (le s r) (k + w) k) (and_r (right s d) (fine left (s ⊗ f½) s) t)
+    (step_in r s d h.0 h.1 fs (and_l (halves s d) (cancels s) b) (and_r (halves s d) (cancels s) b)
     (le s r) (λ (u : T (le s r)). u) (λ (u : T (not (le s r))). lt_le r s (not_le r s (le_right zero64 r h.0) (finite_number s fs) u)))
 
 -- from 512, with what is left at most 1024, down to 1; from 1/2, with what is left at most 1, down to 1/256
@@ -121,7 +123,7 @@ below_256 t = count_below 8 f½ 128 (whole_steps t).0 0 256 (lit< tt)
 
 -- ---- the table's entries, the powers of two, and `half`
 shares : ℕ → Float → Bool
-shares j x = both (plain x) (le x one64)
+shares j x = plain x && le x one64
 
 table_shares : T (every nan shares 0 powers)
 unfolding shares powers of_bits le
@@ -131,7 +133,7 @@ pub power_share : (j : ℕ) → j < 256 → Share (power_at j)
 unfolding shares
 power_share j h =
     let t = at nan shares powers table_shares j (subst (λ (n : ℕ). j < n) (sym sized) h) in
-    (both_left (plain (power_at j)) (le (power_at j) one64) t, both_right (plain (power_at j)) (le (power_at j) one64) t)
+    (and_l (plain (power_at j)) (le (power_at j) one64) t, and_r (plain (power_at j)) (le (power_at j) one64) t)
 
 pub inverse_share : (n : ℕ) → Share (inverse_power n)
 inverse_share n = round_share 1 (2 ^ n) (pow_pos n) (pow_pos n)
@@ -187,7 +189,7 @@ exp_plain y p = go (le y f0) (λ (u : T (le y f0)). u) (λ (u : T (not (le y f0)
     go true a b = (half_share (neg y ⊗ log2e) (mul_up (neg y) log2e (neg_natural y (subst (λ (z : Float). T (le y z)) zero_is (a tt))) log2e_positive)).0
     go false a b =
         let n : natural y = lt_le zero64 y (not_le zero64 y tt p (subst (λ (z : Float). T (not (le y z))) zero_is (b tt))) in
-        subst (λ (o : Float). T (plain (o ⊘ half (y ⊗ log2e)))) (sym one_is) (one_by (half (y ⊗ log2e)) (half_share (y ⊗ log2e) (mul_up y log2e n log2e_positive)))
+        subst (λ (o : Float). T (plain (o ⊘ half (y ⊗ log2e)))) (sym one_f64_is) (one_by (half (y ⊗ log2e)) (half_share (y ⊗ log2e) (mul_up y log2e n log2e_positive)))
 
 -- ---- the logistic
 nine_positive : T (positive f9)
@@ -206,7 +208,7 @@ logistic_share d p = go (lt d (neg f40))
     go false =
         let v = exp (neg d) ⊘ f9 in
         let n : natural v = plain_natural v (div_plain binary64 (exp (neg d)) f9 (exp_plain (neg d) (neg_number d p)) nine_positive) in
-        subst (λ (o : Float). Share (o ⊘ (o ⊕ v))) (sym one_is) (inverse_from_one (one64 ⊕ v) (grows binary64 one64 v one_fits (plain_natural one64 tt) n))
+        subst (λ (o : Float). Share (o ⊘ (o ⊕ v))) (sym one_f64_is) (inverse_from_one (one64 ⊕ v) (grows binary64 one64 v one_fits (plain_natural one64 tt) n))
 
 -- at any SNR that is no NaN, any finite threshold and any slope above 0: so at every one that the prior hands over
 pub probability_share : (snr threshold slope : Float) → T (number snr) → T (finite threshold) → T (positive slope) → Share (decode_probability snr threshold slope)
@@ -215,7 +217,7 @@ probability_share snr threshold slope p q r = logistic_share ((snr ⊖ threshold
 
 -- ---- as document 01 says it: "It lies from 0 to 1."
 pub from_share : (p : Float) → Share p → FromZeroToOne p
-from_share p h = (subst (λ (z : Float). T (le z p)) (sym zero_is) (plain_natural p h.0), subst (λ (z : Float). T (le p z)) (sym one_is) h.1)
+from_share p h = (subst (λ (z : Float). T (le z p)) (sym zero_is) (plain_natural p h.0), subst (λ (z : Float). T (le p z)) (sym one_f64_is) h.1)
 
 pub half_from_zero_to_one : (t : Float) → T (le f0 t) → FromZeroToOne (half t)
 half_from_zero_to_one t n = from_share (half t) (half_share t (subst (λ (z : Float). T (le z t)) zero_is n))

@@ -1,13 +1,13 @@
 -- What the steps of `descent` take off, all at once. Steps from 2 ^ (n - 1) / 2 ^ l down to 1 / 2 ^ l take off r = q / 2 ^ (l + d), which is below twice the first, the
 -- largest multiple of 1 / 2 ^ l up to r, since every subtraction is exact. From what is below the last step, and from a NaN, they take nothing. Assumes nothing.
-use Rattle.std.proofs.Common.{◌≡◌, ℕ, zero, suc, ◌+◌, ◌-◌, ◌*◌, ◌/◌, ◌%◌, ◌^◌, ◌<◌, ◌≤◌, Bool, true, false, cond, not, T, eqb, ltb, sym, refl, ap, ◌∙◌, subst, le_of_eq, lt_of_lt_of_le, mod-eq_of_lt, mul_assoc, one-mul, lt_of_not-le, arith, eqb→eq, ltb→lt, T_not, pow_pos}
+use Rattle.std.proofs.Common.{◌≡◌, ℕ, zero, suc, ◌+◌, ◌-◌, ◌*◌, ◌/◌, ◌%◌, ◌^◌, ◌<◌, ◌≤◌, Bool, true, false, cond, not, ◌&&◌, T, eqb, ltb, sym, refl, ap, ◌∙◌, subst, le_of_eq, lt_of_lt_of_le, mod-eq_of_lt, mul_assoc, one-mul, lt_of_not-le, arith, eqb→eq, ltb→lt, T_not, pow_pos}
 use native.Mathlib.Nat.{div-eq_of_lt, add-mul-mod_self_right, add-mul-div_right, pow-succ'}
 use lib.Dec.{not_T}
 use lib.Ieee.{Float, binary64, round, le, mul, of_bits}
 use lib.Ieee.Bits.{is_false}
+use lib.Ieee.Fits.{and_l, and_r}
 use lib.Ieee.Exact.{HasValue}
 use Rattle.float.specs.Numbers.{◌⊖◌, ◌⊗◌, f½}
-use Rattle.float.proofs.Table.{both, both_left, both_right}
 use Rattle.float.proofs.Same.{same, same→eq}
 use Rattle.float.proofs.Order.{le_le}
 use Rattle.half.specs.Power.{f512, descent}
@@ -18,11 +18,11 @@ abbrev weighs : ℕ → Float → ℕ → Bool
 weighs l s w = same s (F l w)
 
 abbrev power : ℕ → ℕ → Bool
-power n w = both (eqb w (2 ^ n)) (ltb w (2 ^ 53))
+power n w = eqb w (2 ^ n) && ltb w (2 ^ 53)
 
 unfoldable pub halving : ℕ → ℕ → Float → ℕ → Bool
 halving l zero s w = true
-halving l (suc n) s w = both (both (weighs l s w) (power n w)) (halving l n (s ⊗ f½) (w / 2))
+halving l (suc n) s w = weighs l s w && power n w && halving l n (s ⊗ f½) (w / 2)
 
 pub halvings : T (halving 0 10 f512 512) × T (halving 8 8 f½ 128)
 unfolding halving of_bits mul round
@@ -68,22 +68,22 @@ module _ (l d k : ℕ) (e : l + d ≡ k) (K : k ≤ 1074) where
       let g = lt_of_lt_of_le h (le_of_eq (one-mul (2 ^ d))) in
       pair (ap (F k) (sym (mod-eq_of_lt g))) (omega (arith, div-eq_of_lt g))
   all_taken (suc n) s w q c t Q h =
-      let a = both_left (both (weighs l s w) (power n w)) (halving l n (s ⊗ f½) (w / 2)) t in
-      let p = both_right (weighs l s w) (power n w) a in
-      let is : w ≡ 2 ^ n = eqb→eq w (2 ^ n) (both_left (eqb w (2 ^ n)) (ltb w (2 ^ 53)) p) in
-      let v = step_value s w (both_left (weighs l s w) (power n w) a) (ltb→lt w (2 ^ 53) (both_right (eqb w (2 ^ n)) (ltb w (2 ^ 53)) p)) in
+      let a = and_l (weighs l s w && power n w) (halving l n (s ⊗ f½) (w / 2)) t in
+      let p = and_r (weighs l s w) (power n w) a in
+      let is : w ≡ 2 ^ n = eqb→eq w (2 ^ n) (and_l (eqb w (2 ^ n)) (ltb w (2 ^ 53)) p) in
+      let v = step_value s w (and_l (weighs l s w) (power n w) a) (ltb→lt w (2 ^ 53) (and_r (eqb w (2 ^ n)) (ltb w (2 ^ 53)) p)) in
       one_step d k w q c s v (F-value k q K Q) Q (omega (arith, twice w n d is)) (descent n (s ⊗ f½) (w / 2))
-      (λ (m b : ℕ) (M : m < 2 ^ 53) (g : m < w * 2 ^ d). all_taken n (s ⊗ f½) (w / 2) m b (both_right (both (weighs l s w) (power n w)) (halving l n (s ⊗ f½) (w / 2)) t) M (lt_of_lt_of_le g (le_of_eq (ap (λ (z : ℕ). z * 2 ^ d) is))))
+      (λ (m b : ℕ) (M : m < 2 ^ 53) (g : m < w * 2 ^ d). all_taken n (s ⊗ f½) (w / 2) m b (and_r (weighs l s w && power n w) (halving l n (s ⊗ f½) (w / 2)) t) M (lt_of_lt_of_le g (le_of_eq (ap (λ (z : ℕ). z * 2 ^ d) is))))
       (le s (F k q)) (λ (u : T (le s (F k q))). u) (λ (u : T (not (le s (F k q)))). u)
 
 -- ---- none is taken from what is not at least the last, o: each is at least o
 unfoldable pub from : Float → ℕ → Float → Bool
 from o zero s = true
-from o (suc n) s = both (le o s) (from o n (s ⊗ f½))
+from o (suc n) s = le o s && from o n (s ⊗ f½)
 
 pub none_taken : (o : Float) (n : ℕ) (s : Float) (w : ℕ) (r : Float) (c : ℕ) → T (from o n s) → T (not (le o r)) → descent n s w r c ≡ (r, c)
 unfolding descent from
 none_taken o zero s w r c t h = refl
 none_taken o (suc n) s w r c t h =
-    let e : le s r ≡ false = is_false (le s r) (not_T (le s r) (λ (u : T (le s r)). T_not (le o r) h (le_le o s r (both_left (le o s) (from o n (s ⊗ f½)) t) u))) in
-    rw e (none_taken o n (s ⊗ f½) (w / 2) r c (both_right (le o s) (from o n (s ⊗ f½)) t) h)
+    let e : le s r ≡ false = is_false (le s r) (not_T (le s r) (λ (u : T (le s r)). T_not (le o r) h (le_le o s r (and_l (le o s) (from o n (s ⊗ f½)) t) u))) in
+    rw e (none_taken o n (s ⊗ f½) (w / 2) r c (and_r (le o s) (from o n (s ⊗ f½)) t) h)

@@ -19,7 +19,7 @@ pub fn exp(y: f64) -> f64
 }
 
 // ---- the logistic
-// (The three numbers of document 01's "d = (SNR - threshold)/slope" meet here only: a struct of them would be made at each call, to be taken apart at once.)
+// (The three numbers of document 01's "d = (SNR - threshold)/slope" meet here only: a struct of them would be made at each call, to be taken apart there.)
 // The chance that a frame decodes, for inner use: the prior may pass the limits on dB values.
 #[tactic(auto, unfolding(crate::specs::Logistic::decode_probability))]
 pub fn logistic(snr_db: f64, threshold_db: f64, slope_db: f64) -> f64

@@ -277,6 +277,7 @@ fn half_power(j: usize) -> f64
 }
 
 // 2 ^ -n, exactly: the exponent's field is 1023 - n, and for n = 1023 the value is subnormal.
+#[tactic(auto, using(std::proofs::lemmas::Float::not_nan_f64_bits, crate::proofs::InversePower::is_power, crate::proofs::InversePower::last))]
 fn inverse_power(n: usize) -> f64
     requires { n < 1024 }
     ensures { result ≡ inverse_power n }

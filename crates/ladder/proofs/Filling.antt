@@ -3,19 +3,15 @@ use mathlib.Core.Path.{◌≡◌, refl, sym, ap, ◌∙◌}
 use mathlib.Core.Bool.{Bool, true, false, not}
 use mathlib.Core.List.{List, [], ◌∷◌, ◌++◌, map, append-nil}
 use Prim.Native.Nat.{ℕ, ◌+◌, ◌-◌, ◌<◌, ◌≤◌}
-use native.Mathlib.Nat.{sub-zero}
 use native.Mathlib.Omega.{arith}
-use lib.ListN.{length, set, replicate, length-append, length-map}
+use lib.ListN.{length, set, length-append, length-map}
 use lib.Seq.{append_snoc}
+use Rattle.std.proofs.lemmas.List.{map_push}
 use Rattle.ladder.specs.Lists.{select, filled}
 use Rattle.ladder.specs.Types.{Rung, Front, rung}
 use Rattle.ladder.specs.Front.{front_rungs, front_as}
 use Rattle.ladder.proofs.Arrays.{filled_next}
 use Rattle.ladder.proofs.Ranges.{select_here, select_later, select_nothing}
-
-map_snoc : {A B : Type 0} (g : A → B) (xs : List A) (x : A) → map g (xs ++ x ∷ []) ≡ map g xs ++ g x ∷ []
-map_snoc g [] x = refl
-map_snoc g (y ∷ ys) x = ap (λ l. g y ∷ l) (map_snoc g ys x)
 
 module _ (out : ℕ → Bool) (n : ℕ) where
   -- whether a number stays
@@ -29,15 +25,6 @@ module _ (out : ℕ → Bool) (n : ℕ) where
     pub within : count ≤ i
     pub rest : chosen ++ select (n - i) i stays ≡ select n 0 stays
 
-  pub filling_starts : Filling 0 (replicate 32 (rung 0)) 0
-  filling_starts = record {
-    chosen = [];
-    array = refl;
-    counted = refl;
-    within = omega arith;
-    rest = rw sub-zero refl;
-  }
-
   module _ (i : ℕ) (rungs : List Rung) (count : ℕ) (so_far : Filling i rungs count) where
     module _ (r : Bool) (h : i < n) (e : r ≡ out i) where
       pub filling_takes : n ≤ 32 → not r ≡ true → Filling (i + 1) (set rungs count (rung i)) (count + 1)
@@ -46,7 +33,7 @@ module _ (out : ℕ → Bool) (n : ℕ) where
           let full : count ≡ length (map rung xs) = so_far.counted ∙ sym (length-map xs rung) in
           record {
             chosen = xs ++ i ∷ [];
-            array = ap (λ (l : List Rung). set l count (rung i)) so_far.array ∙ ap (λ (k : ℕ). set (front_rungs xs) k (rung i)) full ∙ filled_next (rung 0) (rung i) (map rung xs) (omega (arith, so_far.within)) ∙ ap (filled (rung 0)) (sym (map_snoc rung xs i));
+            array = ap (λ (l : List Rung). set l count (rung i)) so_far.array ∙ ap (λ (k : ℕ). set (front_rungs xs) k (rung i)) full ∙ filled_next (rung 0) (rung i) (map rung xs) (omega (arith, so_far.within)) ∙ ap (filled (rung 0)) (sym (map_push rung xs i));
             counted = omega (arith, length-append xs (i ∷ []), so_far.counted);
             within = omega (arith, so_far.within);
             rest = append_snoc xs i _ ∙ ap (λ (l : List ℕ). xs ++ l) (sym (select_here stays n i (not r) h (ap not e) q)) ∙ so_far.rest;

@@ -1,5 +1,3 @@
-pub mod Tests
-pub mod Every
 pub mod Arrays
 pub mod Ranges
 pub mod Filling

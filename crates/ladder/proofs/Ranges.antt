@@ -5,16 +5,17 @@ use mathlib.Core.List.{[], ◌∷◌}
 use Prim.Native.Nat.{ℕ, zero, suc, ◌+◌, ◌-◌, ◌<◌, ◌≤◌}
 use native.Mathlib.Numerals.{add-one}
 use native.Mathlib.Omega.{arith}
-use Rattle.std.specs.List.{list_any, range_with_len}
 use Rattle.ladder.specs.Lists.{select, some_from}
 
-module _ (f : ℕ → Bool) (n i : ℕ) where
-  left : i < n → n - i ≡ suc (n - (i + 1))
+-- how many numbers are left at i
+module _ {n i : ℕ} where
+  pub left : i < n → n - i ≡ suc (n - (i + 1))
   left h = omega arith
 
-  none_left : n ≤ i → n - i ≡ 0
+  pub none_left : n ≤ i → n - i ≡ 0
   none_left h = omega arith
 
+module _ (f : ℕ → Bool) (n i : ℕ) where
   -- `r` is what the test said of i
   module _ (r : Bool) (h : i < n) (e : r ≡ f i) where
     pub select_here : r ≡ true → select (n - i) i f ≡ i ∷ select (n - (i + 1)) (i + 1) f
@@ -25,11 +26,6 @@ module _ (f : ℕ → Bool) (n i : ℕ) where
 
   pub select_nothing : n ≤ i → select (n - i) i f ≡ []
   select_nothing h = rw (none_left h) refl
-
--- over a range of numbers `any` is `some_from`
-pub list_any-range : (f : ℕ → Bool) (n i : ℕ) → list_any f (range_with_len i n) ≡ some_from n i f
-list_any-range f zero i = refl
-list_any-range f (suc n) i = rw (add-one i, list_any-range f n (suc i)) refl
 
 -- tests that agree on a range
 pub some_agree : (f g : ℕ → Bool) (n i : ℕ) → ((k : ℕ) → k < i + n → f k ≡ g k) → some_from n i f ≡ some_from n i g

@@ -29,11 +29,17 @@ module _ {F A : Type 0} {g : Mut F (ℕ × Unit {0}) A} {f : F} (h : ℕ → A) 
       let next : i + suc k ≡ i + 1 + k = omega arith in
       ap (λ (j : ℕ). get_or l j d) next ∙ each_call l n (i + 1) k d rest (le_of_suc-le-suc less) ∙ ap h (sym next)
 
-  pub tabulated : (l : List A) (n : ℕ) (d : A) → IsFromFnResult g f l n → l ≡ tabulate n 0 h
-  tabulated l n d w =
-      listed h n 0 l d w.long (λ k less. ap (λ (j : ℕ). get_or l j d) (sym (zero-add k)) ∙ each_call l n 0 k d w.each less)
+  pub made_at : (l : List A) (n k : ℕ) (d : A) → IsFromFnResult g f l n → k < n → get_or l k d ≡ h k
+  made_at l n k d w less = ap (λ (j : ℕ). get_or l j d) (sym (zero-add k)) ∙ each_call l n 0 k d w.each less ∙ ap h (zero-add k)
 
--- what stands at a place
+  pub tabulated : (l : List A) (n : ℕ) (d : A) → IsFromFnResult g f l n → l ≡ tabulate n 0 h
+  tabulated l n d w = listed h n 0 l d w.long (λ k less. made_at l n k d w less ∙ ap h (sym (zero-add k)))
+
+-- how long a table is, and what stands at a place of it
+pub length_tabulate : {A : Type 0} (n i : ℕ) (f : ℕ → A) → length (tabulate n i f) ≡ n
+length_tabulate zero i f = refl
+length_tabulate (suc n) i f = ap suc (length_tabulate n (suc i) f)
+
 pub tabulate_at : {A : Type 0} (n i : ℕ) (f : ℕ → A) (r : ℕ) (d : A) → r < n → get_or (tabulate n i f) r d ≡ f (i + r)
 tabulate_at zero i f r d h = absurd (not-suc-le-zero h)
 tabulate_at (suc n) i f zero d h = ap f (sym (add-zero i))

@@ -1,28 +1,62 @@
--- What stands at each rung of the worths that are divided once, and so that a front by them is the front of the rules. Assumes nothing.
+-- A front by the rungs' offers, each worth divided once, is the front of the rules. Assumes nothing.
 use mathlib.Core.Path.{◌≡◌, refl, ap, ◌∙◌}
-use mathlib.Core.List.{List}
-use Prim.Native.Nat.{ℕ, ◌<◌, ◌≤◌}
-use native.Mathlib.Nat.{zero-add}
-use native.Mathlib.Omega.{arith}
-use lib.Ieee.{Float, nan}
-use lib.ListN.{length, get_or}
+use mathlib.Core.Bool.{Bool, true, false, not, ◌&&◌}
+use mathlib.Core.List.{List, map}
+use Prim.Native.Nat.{ℕ, zero, suc, ◌<◌, ◌≤◌}
+use native.Mathlib.Nat.{not-suc-le-zero, le_of_suc-le-suc, zero-add}
+use native.Mathlib.Numerals.{add-one}
+use lib.Dec.{eqb}
+use lib.Ieee.{Float, le}
+use lib.ListN.{length, get_or, take}
+use Rattle.std.specs.List.{list_any, enumerate_from}
 use Rattle.float.specs.Numbers.{f0}
+use Rattle.ladder.specs.Lists.{tabulate, some_from}
 use Rattle.ladder.specs.Front.{worth_at, worths_of, beats, beaten}
-use Rattle.ladder.specs.bridges.Worths.{beats_with, beaten_with}
-use Rattle.ladder.proofs.Arrays.{any_default}
+use Rattle.ladder.specs.bridges.Worths.{Offer, offer_at, offers_of, beats_with, beaten_with}
 use Rattle.ladder.proofs.Ranges.{some_agree}
-use Rattle.ladder.proofs.Tabulating.{tabulate_at}
+use Rattle.ladder.proofs.Tabulating.{length_tabulate, tabulate_at}
+
+take_tabulate : {A : Type 0} (m n i : ℕ) (f : ℕ → A) → m ≤ n → take m (tabulate n i f) ≡ tabulate m i f
+take_tabulate zero n i f h = refl
+take_tabulate (suc m) zero i f h = absurd (not-suc-le-zero h)
+take_tabulate (suc m) (suc n) i f h = rw (take_tabulate m n (suc i) f (le_of_suc-le-suc h)) refl
+
+map_tabulate : {A B : Type 0} (g : A → B) (n i : ℕ) (f : ℕ → A) → map g (tabulate n i f) ≡ tabulate n i (λ k. g (f k))
+map_tabulate g zero i f = refl
+map_tabulate g (suc n) i f = rw (map_tabulate g n (suc i) f) refl
+
+and_assoc : (a b c : Bool) → (a && (b && c)) ≡ (a && b && c)
+and_assoc true b c = refl
+and_assoc false b c = refl
+
+-- a test of what is tabulated, and of its number
+any_tabulate : {A : Type 0} (p : ℕ × A → Bool) (f : ℕ → A) (n i : ℕ) → list_any p (enumerate_from i (tabulate n i f)) ≡ some_from n i (λ k. p (k, f k))
+any_tabulate p f zero i = refl
+any_tabulate p f (suc n) i = rw (add-one i, any_tabulate p f n (suc i)) refl
 
 module _ (thresholds : List Float) (payloads : List ℕ) (times : List Float) where
-  worth_read : (r : ℕ) → r < 32 → get_or (worths_of payloads times) r nan ≡ worth_at payloads times r
-  unfolding worths_of
-  worth_read r h = tabulate_at 32 0 (worth_at payloads times) r nan h ∙ ap (worth_at payloads times) (zero-add r)
+  -- the worths of the offers
+  pub offers_worths : map (λ (o : Offer). o.worth) (offers_of thresholds payloads times) ≡ worths_of payloads times
+  unfolding offers_of worths_of
+  offers_worths = map_tabulate (λ (o : Offer). o.worth) 32 0 (offer_at thresholds payloads times)
 
-  module _ (few : length thresholds ≤ 32) (r : ℕ) (inside : r < length thresholds) where
-    pub beats_by_worths : (o : ℕ) → o < length thresholds → beats_with thresholds (worths_of payloads times) r o ≡ beats thresholds payloads times r o
-    beats_by_worths o h =
-        rw (worth_read r (omega arith), worth_read o (omega arith), any_default thresholds o nan f0 h, any_default thresholds r nan f0 inside) refl
+  pub beats_by_worths : (r o : ℕ) → (not (eqb o r) && beats_with (offer_at thresholds payloads times o) (offer_at thresholds payloads times r)) ≡ beats thresholds payloads times r o
+  beats_by_worths r o =
+      and_assoc (not (eqb o r)) (le (worth_at payloads times r) (worth_at payloads times o)) (le (get_or thresholds o f0) (get_or thresholds r f0))
 
-    pub beaten_by_worths : beaten_with thresholds (worths_of payloads times) r ≡ beaten thresholds payloads times r
-    unfolding beaten
-    beaten_by_worths = some_agree (beats_with thresholds (worths_of payloads times) r) (beats thresholds payloads times r) (length thresholds) 0 (λ o h. beats_by_worths o (omega arith))
+  -- r is beaten among the first offers, as many as there are rungs
+  module _ (few : length thresholds ≤ 32) (r : ℕ) (inside : r < length thresholds) (d : Offer) where
+    pub beaten_by_worths : beaten_with (take (length thresholds) (offers_of thresholds payloads times)) r (get_or (take (length thresholds) (offers_of thresholds payloads times)) r d) ≡ beaten thresholds payloads times r
+    unfolding offers_of beaten
+    beaten_by_worths =
+        let offer = offer_at thresholds payloads times in
+        let n = length thresholds in
+        let all = take_tabulate n 32 0 offer few in
+        let mine : get_or (tabulate n 0 offer) r d ≡ offer r = tabulate_at n 0 offer r d inside ∙ ap offer (zero-add r) in
+        let test = λ (p : ℕ × Offer). not (eqb p.0 r) && beats_with p.1 (offer r) in
+        rw (all, mine) (any_tabulate test offer n 0 ∙ some_agree (λ k. test (k, offer k)) (beats thresholds payloads times r) n 0 (λ k less. beats_by_worths r k))
+
+  -- as many offers are compared as there are rungs
+  pub offers_taken : length thresholds ≤ 32 → length (take (length thresholds) (offers_of thresholds payloads times)) ≡ length thresholds
+  unfolding offers_of
+  offers_taken few = rw (take_tabulate (length thresholds) 32 0 (offer_at thresholds payloads times) few) (length_tabulate (length thresholds) 0 (offer_at thresholds payloads times))

@@ -91,8 +91,8 @@ family_gain = f½
 abbrev pub table_from : List Row → ℕ → ℕ → Front → Table
 table_from rows count floors offered = record {
   rows = rows;
-  front = offered.rungs;
-  air = record { count = count; floors = floors; places = offered.count; margin = prior_margin; gain = family_gain };
+  front = offered;
+  air = record { count = count; floors = floors; margin = prior_margin; gain = family_gain };
 }
 
 unfoldable pub table_of : Columns → Table
@@ -103,7 +103,6 @@ abbrev pub air_for : Air → Bool → Air
 air_for a wide = record {
   count = a.count;
   floors = a.floors;
-  places = a.places;
   margin = cond wide f1 a.margin;
   gain = cond wide f1 a.gain;
 }

@@ -26,7 +26,7 @@ abbrev pub rungs_of : Table → ℕ
 rungs_of t = min 32 t.air.count
 
 abbrev pub places_of : Table → ℕ
-places_of t = min 32 t.air.places
+places_of t = min 32 t.front.count
 
 -- whether a rung is in the table
 abbrev pub in_table : Table → ℕ → Bool
@@ -34,7 +34,7 @@ in_table t r = ltb r (rungs_of t)
 
 -- the rung at a place, both by their numbers
 abbrev pub rung_at : Table → ℕ → ℕ
-rung_at t i = (get_or t.front i (rung 0)).0
+rung_at t i = (get_or t.front.rungs i (rung 0)).0
 
 -- "Rungs under the floor count are floor, the others OFDM."
 abbrev pub is_floor : Table → ℕ → Bool

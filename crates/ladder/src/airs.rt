@@ -133,7 +133,8 @@ pub const NARROW: Columns = Columns {
     floors: 5,
 };
 
-// The wide air's table, as `table_for` makes it of the columns above.
+// The wide air's table, as `table_for` makes it of the columns above. (One function for both airs would be handed the columns, as `table_for` is, which is
+// what each of the two calls.)
 pub fn wide_table() -> Result<Table, Refusal>
     ensures { result ≡ tabled wide_air }
 {

@@ -1,16 +1,19 @@
 // What a table is made of: a column each, and whether the columns are as they must be: their sizes, and their values within the limits.
-ghost use Rattle.std.specs.Prelude.{◌≡◌, IsTrue};
+ghost use Rattle.std.specs.Prelude.{◌≡◌};
 ghost use Rattle.limits.specs.Values.{ok_db, ok_air, ok_bytes};
 ghost use Rattle.limits.specs.Readings.{ok_limit};
 ghost use Rattle.ladder.specs.Lists.{every};
 ghost use Rattle.ladder.specs.Columns.{ok_size};
 
+use crate::front::FrontColumns;
 use crate::types::Row;
 use limits::reading::{Reading, ok_limit};
 use limits::values::{ok_air, ok_bytes, ok_db};
 use std::array;
 
 // The columns of a table that a caller lends, of which the first `floors` rungs are floor. The echo limits may be fewer: there is none past them.
+// (Five slices side by side, and no slice of rows: a caller, as C's `rate_table_refusal`, has a column each, and their lengths may differ, which is
+// refused.)
 #[derive(Clone, Copy)]
 pub struct Columns<'a> {
     pub thresholds: &'a [f64],
@@ -91,26 +94,40 @@ impl Columns<'_> {
             && all_limits(self.limits)
     }
 
-    // The row of rung `r`, or the row past the last rung.
-    #[tactic(auto, using(crate::proofs::Accepted::table_lengths))]
+    // Those of its front.
+    pub(crate) fn for_front(&self) -> FrontColumns<'_>
+        ensures thresholds { result.thresholds.now ≡ self.now.thresholds.now }
+        ensures payloads { result.payloads.now ≡ self.now.payloads.now }
+        ensures times { result.times.now ≡ self.now.times.now }
+    {
+        FrontColumns {
+            thresholds: self.thresholds,
+            payloads: self.payloads,
+            times: self.times,
+        }
+    }
+
+    // The row of rung `r`, or the row past the last rung. (Of columns of one length no default is read.)
     fn row(&self, r: usize) -> Row
-        requires { IsTrue (same_sizes (lent self.now)) }
         ensures { result ≡ row_of (lent self.now) r }
     {
-        if r >= self.thresholds.len() {
+        let Some(&threshold) = self.thresholds.get(r) else {
             return Row::NONE;
-        }
+        };
         Row {
-            threshold: self.thresholds[r],
-            capacity: self.capacities[r],
-            time: self.times[r],
+            threshold,
+            capacity: self
+                .capacities
+                .get(r)
+                .copied()
+                .unwrap_or(Row::NONE.capacity),
+            time: self.times.get(r).copied().unwrap_or(Row::NONE.time),
             limit: self.limits.get(r).copied().flatten(),
         }
     }
 
     // The rows of the rungs, and past them those of no rung.
     pub(crate) fn rows(&self) -> [Row; 32]
-        requires { IsTrue (same_sizes (lent self.now)) }
         ensures { result ≡ rows_of (lent self.now) }
     {
         array::from_fn(|r| self.row(r))

@@ -1,6 +1,7 @@
-// The front: the rungs of a ladder that are worth offering. Only what the columns say of themselves is tested here; a table's other refusals are table.rt's.
-ghost use Rattle.std.specs.Prelude.{◌≡◌, ◌<◌, ◌≤◌, length};
-ghost use Rattle.ladder.specs.Front.{OneLength, data_of, worth, worth_at, worths_of, front_of, front_as, front_verdict, usable_of, usable_by_payload};
+// The front: the rungs of a ladder that are worth offering. Only what the columns say of themselves is tested here; a table's other refusals are
+// table.rt's.
+ghost use Rattle.std.specs.Prelude.{◌≡◌, ◌≤◌, length};
+ghost use Rattle.ladder.specs.Front.{data_of, worth, usable_of, usable_by_payload};
 ghost use Rattle.ladder.specs.bridges.Worths.{beats_with, beaten_with};
 ghost use Rattle.ladder.specs.Airs.{wide_thresholds, wide_payloads, wide_times};
 
@@ -13,8 +14,14 @@ use std::array;
 // What a DATA frame's header takes of its payload, in bytes: `DATA_HEADER` of the source's frames.rs.
 pub const DATA_HEADER: u32 = 3;
 
-// (The functions below take the two or three columns that a front is made of. A `Columns` holds capacities, limits and a floor count too, which callers of
-// `usable_modes_by_rate`, as C's `rate_usable_modes`, do not have.)
+// The columns that a front is made of. (A `Columns` holds capacities, limits and a floor count too, which callers of `usable_modes_by_rate`, as C's
+// `rate_usable_modes`, do not have.)
+#[derive(Clone, Copy)]
+pub(crate) struct FrontColumns<'a> {
+    pub thresholds: &'a [f64],
+    pub payloads: &'a [u32],
+    pub times: &'a [f64],
+}
 
 // The data bytes of a frame.
 fn data_of(payload: u32) -> u32
@@ -30,84 +37,104 @@ fn worth(payload: u32, time: f64) -> f64
     data_of(payload) as f64 / time
 }
 
-// The worth of rung `m`, and 0.0 past the last rung. (One test is for both columns, which have one length. With `get` it would be a match on two Options,
-// with a case, one there and the other not, that does not occur.)
-fn worth_at(payload: &[u32], frame_s: &[f64], m: usize) -> f64
-    requires { length payload.now ≡ length frame_s.now }
-    ensures { result ≡ worth_at payload.now frame_s.now m }
-{
-    if m < payload.len() {
-        worth(payload[m], frame_s[m])
-    } else {
-        0.0
+// What a front compares of a rung: its threshold, and its worth, which is divided once.
+#[derive(Clone, Copy)]
+struct Offer {
+    threshold: f64,
+    worth: f64,
+}
+
+impl Offer {
+    // Whether it is worth at least as much as another, with a threshold at most as high.
+    fn beats(&self, other: &Offer) -> bool
+        ensures { result ≡ beats_with self.now other.now }
+    {
+        self.worth >= other.worth && self.threshold <= other.threshold
     }
 }
 
-// The worth of each rung, divided once, and past the last rung 0.0.
-fn worths_of(payload: &[u32], frame_s: &[f64]) -> [f64; 32]
-    requires { length payload.now ≡ length frame_s.now }
-    ensures { result ≡ worths_of payload.now frame_s.now }
+// Whether rung `m` with that offer is left off: the offer of another rung beats it.
+fn is_beaten(offers: &[Offer], m: usize, offer: &Offer) -> bool
+    ensures { result ≡ beaten_with offers.now m offer.now }
 {
-    array::from_fn(|m| worth_at(payload, frame_s, m))
+    offers
+        .iter()
+        .enumerate()
+        .any(|(n, other)| n != m && other.beats(offer))
 }
 
-// Whether rung `other` is another than rung `m`, worth at least as much, and has a threshold at most as high: in the columns that the worths
-// are of.
-fn beats(thresholds: &[f64], worths: &[f64], m: usize, other: usize) -> bool
-    requires thresholds_in_bounds { length thresholds.now ≤ length worths.now }
-    requires m_in_bounds { (m < length thresholds.now) × (other < length thresholds.now) }
-    ensures { result ≡ beats_with thresholds.now worths.now m other }
-{
-    other != m && worths[other] >= worths[m] && thresholds[other] <= thresholds[m]
-}
+impl FrontColumns<'_> {
+    ghost use Rattle.ladder.specs.Front.{worth_at, front_of, front_as, front_verdict};
+    ghost use Rattle.ladder.specs.bridges.Worths.{offer_at, offers_of};
 
-// Whether rung `m` is left off: another beats it, in the columns that the worths are of.
-fn is_beaten(thresholds: &[f64], worths: &[f64], m: usize) -> bool
-    requires thresholds_in_bounds { length thresholds.now ≤ length worths.now }
-    requires m_in_bounds { m < length thresholds.now }
-    ensures { result ≡ beaten_with thresholds.now worths.now m }
-{
-    (0..thresholds.len()).any(|other| beats(thresholds, worths, m, other))
-}
+    // The worth of rung `m`; past the last rung no data bytes in a frame time of 1.0, which is 0.0.
+    fn worth_at(&self, m: usize) -> f64
+        ensures { result ≡ worth_at self.now.payloads.now self.now.times.now m }
+    {
+        worth(
+            self.payloads.get(m).copied().unwrap_or(0),
+            self.times.get(m).copied().unwrap_or(1.0),
+        )
+    }
 
-// The rungs that no other beats, ascending. (`m` is the rung's number, and no index of one slice. There is no heap, so a `filter` could not be
-// collected, and would fill this array by this count too.)
-pub(crate) fn front_of(thresholds: &[f64], payload: &[u32], frame_s: &[f64]) -> Front
-    requires one_length { OneLength thresholds.now payload.now frame_s.now }
-    requires thresholds_len_bound { length thresholds.now ≤ 32 }
-    ensures { result ≡ front_as (front_of thresholds.now payload.now frame_s.now) }
-{
-    let worths = worths_of(payload, frame_s);
-    let mut rungs = [Rung(0); 32];
-    let mut places = 0;
-    for m in 0..thresholds.len() {
-        if !is_beaten(thresholds, &worths, m) {
-            rungs[places] = Rung(m as u32);
-            places += 1;
+    // The offer of rung `m`.
+    fn offer_at(&self, m: usize) -> Offer
+        ensures { result ≡ offer_at self.now.thresholds.now self.now.payloads.now self.now.times.now m }
+    {
+        Offer {
+            threshold: self.thresholds.get(m).copied().unwrap_or(0.0),
+            worth: self.worth_at(m),
         }
     }
-    Front {
-        rungs,
-        count: places as u32,
-    }
-}
 
-// Why a front of these columns is refused, if it is.
-#[tactic(auto, unfolding(crate::specs::Front::front_verdict))]
-fn front_verdict(thresholds: &[f64], payload: &[u32], frame_s: &[f64]) -> Verdict
-    ensures { result ≡ front_verdict thresholds.now payload.now frame_s.now }
-{
-    let n = thresholds.len();
-    if !(ok_size(n) && ok_size(payload.len()) && ok_size(frame_s.len())) {
-        return Err(Refusal::ColumnSize);
+    // The offer of each rung.
+    fn offers(&self) -> [Offer; 32]
+        ensures { result ≡ offers_of self.now.thresholds.now self.now.payloads.now self.now.times.now }
+    {
+        array::from_fn(|m| self.offer_at(m))
     }
-    if payload.len() != n || frame_s.len() != n {
-        return Err(Refusal::ColumnsDiffer);
+
+    // The rungs that no other beats, ascending. (An array is filled by its count: document 01's form of a vector: "32-entry arrays with a count", into
+    // which what a `filter` leaves cannot be collected.)
+    #[tactic(auto, using(crate::proofs::Filling::filling_takes, crate::proofs::Filling::filling_leaves, crate::proofs::Filling::filling_ends, crate::proofs::Worths::beaten_by_worths, crate::proofs::Worths::offers_taken), unfolding(crate::specs::Front::front_of))]
+    pub(crate) fn front(&self) -> Front
+        requires thresholds_len_bound { length self.now.thresholds.now ≤ 32 }
+        ensures { result ≡ front_as (front_of self.now.thresholds.now self.now.payloads.now self.now.times.now) }
+    {
+        let all = self.offers();
+        let offers = &all[..self.thresholds.len()];
+        let mut rungs = [Rung(0); 32];
+        let mut places = 0;
+        for (m, offer) in offers.iter().enumerate() {
+            if !is_beaten(offers, m, offer) {
+                rungs[places] = Rung(m as u32);
+                places += 1;
+            }
+        }
+        Front {
+            rungs,
+            count: places as u32,
+        }
     }
-    if !(all_db(thresholds) && all_bytes(payload) && all_air(frame_s)) {
-        return Err(Refusal::TableValue);
+
+    // Why a front of these columns is refused, if it is. (These are tests that `Columns` makes of its columns too, each with the conditions of more
+    // columns between them. To make those of these would be to have both definitions in another order, for no shorter a function.)
+    #[tactic(auto, unfolding(crate::specs::Front::front_verdict))]
+    fn verdict(&self) -> Verdict
+        ensures { result ≡ front_verdict self.now.thresholds.now self.now.payloads.now self.now.times.now }
+    {
+        let n = self.thresholds.len();
+        if !(ok_size(n) && ok_size(self.payloads.len()) && ok_size(self.times.len())) {
+            return Err(Refusal::ColumnSize);
+        }
+        if self.payloads.len() != n || self.times.len() != n {
+            return Err(Refusal::ColumnsDiffer);
+        }
+        if !(all_db(self.thresholds) && all_bytes(self.payloads) && all_air(self.times)) {
+            return Err(Refusal::TableValue);
+        }
+        Ok(())
     }
-    Ok(())
 }
 
 // The front of any table, comparing data bytes per second: what tells the floor's long frames from the ordinary ones.
@@ -119,12 +146,17 @@ pub fn usable_modes_by_rate(
 ) -> Result<Front, Refusal>
     ensures { result ≡ usable_of thresholds.now payload.now frame_s.now }
 {
-    front_verdict(thresholds, payload, frame_s)?;
-    Ok(front_of(thresholds, payload, frame_s))
+    let columns = FrontColumns {
+        thresholds,
+        payloads: payload,
+        times: frame_s,
+    };
+    columns.verdict()?;
+    Ok(columns.front())
 }
 
 // The front of any table, comparing data bytes a frame: right where every frame is as long as the others.
-#[tactic(auto, using(crate::proofs::Arrays::take_replicate), unfolding(crate::specs::Front::usable_by_payload, crate::specs::Front::usable_of, crate::specs::Front::front_verdict))]
+#[tactic(auto, using(crate::proofs::Arrays::first_equal), unfolding(crate::specs::Front::usable_by_payload, crate::specs::Front::usable_of, crate::specs::Front::front_verdict))]
 pub fn usable_modes_of(thresholds: &[f64], payload: &[u32]) -> Result<Front, Refusal>
     ensures { result ≡ usable_by_payload thresholds.now payload.now }
 {

@@ -4,7 +4,6 @@ ghost use Rattle.ladder.specs.bridges.Lent.{lent};
 ghost use Rattle.ladder.specs.Tables.{table_from, tabled, air_for, for_air};
 
 use crate::columns::Columns;
-use crate::front;
 use crate::types::{Air, Front, Row, Table};
 use limits::refusal::Refusal;
 
@@ -19,23 +18,26 @@ pub const WIDE_PRIOR_MARGIN_DB: f64 = 1.0;
 
 pub const WIDE_FAMILY_GAIN_DB: f64 = 1.0;
 
-// A table of its parts, with the settings that any air starts from. (No heap: the rows are an array of as many as there may be, and `count` are in use.)
+// A table of its parts, with the settings that any air starts from. (Of the array of rows `count` are in use: document 01's form of a vector: "32-entry
+// arrays with a count".)
 fn table_from(rows: [Row; 32], count: u32, floors: u32, offered: Front) -> Table
     ensures { result ≡ table_from rows count floors offered }
 {
     let air = Air {
         count,
         floors,
-        places: offered.count,
         margin: PRIOR_MARGIN_DB,
         gain: FAMILY_GAIN_DB,
     };
-    let front = offered.rungs;
-    Table { rows, front, air }
+    Table {
+        rows,
+        front: offered,
+        air,
+    }
 }
 
 // A table of these columns.
-#[tactic(auto, using(crate::proofs::Accepted::table_sizes, crate::proofs::Accepted::table_lengths), unfolding(crate::specs::Tables::tabled, crate::specs::Tables::table_verdict, crate::specs::Tables::table_of))]
+#[tactic(auto, using(crate::proofs::Accepted::table_sizes), unfolding(crate::specs::Tables::tabled, crate::specs::Tables::table_verdict, crate::specs::Tables::table_of))]
 pub fn table_for(c: &Columns) -> Result<Table, Refusal>
     ensures { result ≡ tabled (lent c.now) }
 {
@@ -52,7 +54,7 @@ pub fn table_for(c: &Columns) -> Result<Table, Refusal>
     if c.floors > n {
         return Err(Refusal::FloorCount);
     }
-    let offered = front::front_of(c.thresholds, c.payloads, c.times);
+    let offered = c.for_front().front();
     if offered.count == 0 {
         return Err(Refusal::EmptyFront);
     }
@@ -61,8 +63,8 @@ pub fn table_for(c: &Columns) -> Result<Table, Refusal>
 }
 
 // The small facts with their air's settings of the prior: on the narrow air they stay.
-// (`wide` is a bool here and in `for_air`, as in document 01, which calls `for_air(true)`, and in its definition. With an enum of the airs each contract would
-// have to turn it into that bool. The `if` is between two values; a closure for each would be no plainer.)
+// (`wide` is a bool here and in `for_air`, as in document 01, which calls `for_air(true)`, and in its definition. With an enum of the airs each contract
+// would have to turn it into that bool. The `if` is between two values; a closure for each would be no plainer.)
 fn air_for(a: Air, wide: bool) -> Air
     ensures { result ≡ air_for a wide }
 {

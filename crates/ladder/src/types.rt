@@ -1,11 +1,22 @@
 // What a table is made of, and how it is read. A rung or a place outside the arrays gets the source's own defaults, so each read is total.
-ghost use Rattle.std.specs.Prelude.{◌≡◌, take, min};
+ghost use Rattle.std.specs.Prelude.{◌≡◌, Some, take, min, length};
+ghost use Rattle.std.specs.Fmt.{decimal};
 
 use limits::reading::Reading;
+use std::fmt;
 
 // A rung of the ladder by its number in the table: the source's mode.
 #[derive(Clone, Copy, PartialEq, Eq, PartialOrd, Ord, Debug)]
 pub struct Rung(pub u32);
+
+// A rung is printed as its number.
+impl fmt::Display for Rung {
+    ghost output = { λ r. Some (decimal r.0) };
+
+    fn fmt<W: fmt::Write>(&self, f: &mut fmt::Formatter<W>) -> fmt::Result {
+        write!(f, "{}", self.0)
+    }
+}
 
 // A place on the front: the source's index. The rung there is `front[place]`.
 #[derive(Clone, Copy, PartialEq, Eq, PartialOrd, Ord, Debug)]
@@ -30,7 +41,8 @@ impl Row {
     };
 }
 
-// A front: the rungs of the first `count` entries, from the lowest to the highest. (No heap: an array of as many as there may be, and how many there are.)
+// A front: the rungs of the first `count` entries, from the lowest to the highest. (An array and how many are in use: document 01's form of a vector:
+// "32-entry arrays with a count".)
 #[derive(Clone, Copy, PartialEq, Eq, Debug)]
 pub struct Front {
     pub rungs: [Rung; 32],
@@ -46,29 +58,30 @@ impl Front {
     }
 }
 
-// The small facts of an air's table: how many rows are in use, how many of the rungs, the first ones, are floor, and how many places the front has.
+// The small facts of an air's table: how many rows are in use, and how many of the rungs, the first ones, are floor.
 // `margin` and `gain` are the settings of the prior: how far under the reading it is read, and how far a frame moves its family's offset.
-// (No heap: `count` and `places` say how much is in use of the table's two arrays.)
+// (`count` says how much is in use of the table's array of rows: document 01's form of a vector: "32-entry arrays with a count".)
 #[derive(Clone, Copy, PartialEq, Debug)]
 pub struct Air {
     pub count: u32,
     pub floors: u32,
-    pub places: u32,
     pub margin: f64,
     pub gain: f64,
 }
 
-// An air's table: the rows by rung, the front by place, and all that is no array.
+// An air's table: the rows by rung, the front, and the small facts.
 #[derive(Clone, Copy, PartialEq, Debug)]
 pub struct Table {
     pub rows: [Row; 32],
-    pub front: [Rung; 32],
+    pub front: Front,
     pub air: Air,
 }
 
 impl Table {
     ghost use Rattle.ladder.specs.Types.{row, rung_at, rungs_of, places_of, in_table, is_floor};
 
+    // (A read with a default is three calls of the library's, here, below and in the columns. A function of them, handed the list, the number and the
+    // default, would be no shorter where it is called.)
     // A rung's row.
     pub fn row(&self, r: Rung) -> Row
         ensures { result ≡ row self.now r.0 }
@@ -80,7 +93,11 @@ impl Table {
     pub fn rung_at(&self, p: Place) -> Rung
         ensures { result.0 ≡ rung_at self.now p.0 }
     {
-        self.front.get(p.0 as usize).copied().unwrap_or(Rung(0))
+        self.front
+            .rungs
+            .get(p.0 as usize)
+            .copied()
+            .unwrap_or(Rung(0))
     }
 
     // How many rungs are in use: no more than an array has entries, whatever the count says.
@@ -94,14 +111,15 @@ impl Table {
     pub fn places(&self) -> u32
         ensures { result ≡ places_of self.now }
     {
-        self.air.places.min(32)
+        self.front.count.min(32)
     }
 
     // The rungs that are on the front, by place.
     pub fn front(&self) -> &[Rung]
-        ensures { result.now ≡ take (places_of self.now) self.now.front }
+        ensures rungs { result.now ≡ take (places_of self.now) self.now.front.rungs }
+        ensures count { length result.now ≡ places_of self.now }
     {
-        &self.front[..self.places() as usize]
+        self.front.rungs()
     }
 
     // (The next two hold a rung's number against a count: `r < Rung(self.rungs())` would make a rung of the count, and be no shorter.)

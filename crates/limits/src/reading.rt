@@ -7,6 +7,8 @@ use crate::values::{ok_db, ok_share};
 // A reading is missing or carries its value: an SNR, an echo share, an echo limit.
 pub type Reading = Option<f64>;
 
+// (What the next two have in common is the library's `is_none_or`. What is left to each is its test, and the name that its callers have for it: a generic
+// one would have each caller name the test.)
 // Whether an echo limit is within its limits; a missing one is.
 pub fn ok_limit(l: Reading) -> bool
     ensures { result ≡ ok_limit l }

@@ -14,9 +14,12 @@ const QUESTION: u64 = 65537;
 
 const ANSWERS: u64 = 1001;
 
-// The most bytes of an argument.
+// The most bytes of an argument. (It is read into a buffer, and not by `env::args`, which fails as a whole and not by name: one that is too long, or no
+// UTF-8, is said to be so.)
 const PATH: usize = 4096;
 
+// Prints the marks, or the refusal. (The program examples prints the same behind a word. A `Display` for both would be one of a struct around this Result,
+// with its own match.)
 fn put_marks(rt: &impl Print, marks: Result<Score, Refusal>) -> io::Result<()> {
     match marks {
         Ok(score) => println!(rt; "{score}"),

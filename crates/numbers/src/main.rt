@@ -3,6 +3,8 @@
 // number of the refusal. What the Rust reading of document 01 answered is in the file stdout, which the gate holds this program to.
 #![tactic(auto)]
 
+ghost use Rattle.std.specs.Prelude.{◌<◌};
+
 use float::bits::{bits_of, float_of};
 use half::logistic::{decode_probability, exp};
 use half::power::half;
@@ -16,7 +18,9 @@ const LINE: usize = 53;
 const ROOM: u64 = 65536;
 
 // The value of a hexadecimal digit; 0 for any other byte. (`to_digit` takes capitals too, which are other bytes here.)
-fn digit(b: u8) -> u64 {
+fn digit(b: u8) -> u64
+    ensures { result < 16 }
+{
     match b {
         b'0'..=b'9' => u64::from(b - b'0'),
         b'a'..=b'f' => u64::from(b - b'a') + 10,
@@ -35,7 +39,8 @@ fn put(rt: &impl Print, kind: u8, bits: u64) -> io::Result<()> {
     println!(rt; "{bits:016x}")
 }
 
-// Answers a call. (The arms take one or three arguments, and only the last can be refused: closures for them, chosen by letter, would need this match too.)
+// Answers a call. (Its letter is matched here alone: an enum of the letters would be made to be taken apart at once. The arms take one or three arguments,
+// and only the last can be refused: closures for them, chosen by letter, would need this match too.)
 fn answer(rt: &impl Print, line: &[u8; LINE]) -> io::Result<()> {
     let kind = line[0];
     let x = float(&line[2..18]);

@@ -1,10 +1,11 @@
 -- The digits of a number: one below ten, else those of its tenth and one more; how many there are; and they are those that `itoa` writes. Assumes nothing.
-use Rattle.std.specs.Prelude.{◌≡◌, ℕ, zero, suc, ◌+◌, ◌/◌, ◌%◌, ◌^◌, ◌<◌, ◌≤◌, [], ◌∷◌, ◌++◌, length}
-use mathlib.Core.Path.{refl, sym}
+use Rattle.std.specs.Prelude.{◌≡◌, ℕ, zero, suc, ◌+◌, ◌/◌, ◌%◌, ◌*◌, ◌^◌, ◌<◌, ◌≤◌, [], ◌∷◌, ◌++◌, length}
+use mathlib.Core.Path.{refl, sym, ap}
+use native.Mathlib.Nat.{pow-suc}
 use native.Mathlib.Omega.{arith}
 use borrow.Author.Tests.{lt-ltb, le-ltb}
 use lib.ListN.{length-append}
-use Rattle.std.proofs.lemmas.Fmt.{decimal_by_steps, length-decimal-le}
+use Rattle.std.proofs.lemmas.Fmt.{decimal_by_steps}
 use Rattle.std.specs.Fmt as text
 use Rattle.paper.specs.Lines.{digits, decimal}
 
@@ -29,9 +30,23 @@ decimal_more (suc n) h = rw (le-ltb (suc n) 10 h, enough n (suc n / 10) (suc n /
 pub length_more : (n : ℕ) → 10 ≤ n → length (decimal n) ≡ length (decimal (n / 10)) + 1
 length_more n h = rw (decimal_more n h, length-append)
 
+-- as many as one more than its logarithm
+one_power : (k : ℕ) → 1 ≤ 10 ^ k
+one_power zero = omega arith
+one_power (suc k) = omega (arith, pow-suc 10 k, one_power k)
+
+pub length_log : (k n : ℕ) → 10 ^ k ≤ n → n < 10 * 10 ^ k → length (decimal n) ≡ k + 1
+length_log zero n h g = ap length (decimal_one n (omega (arith, g)))
+length_log (suc k) n h g =
+    let p = pow-suc 10 k in
+    let less : 10 ^ k ≤ n / 10 = omega (arith, p, h) in
+    let more : n / 10 < 10 * 10 ^ k = omega (arith, p, g) in
+    let ten : 10 ≤ n = omega (arith, p, h, one_power k) in
+    omega (arith, length_more n ten, length_log k (n / 10) less more)
+
+pub length_zero : length (decimal 0) ≡ 1
+length_zero = ap length (decimal_one 0 (omega arith))
+
 -- ---- it is std's, which `itoa` writes
 pub decimal_text : (n : ℕ) → n < 2 ^ 64 → text.decimal n ≡ decimal n
 decimal_text n h = decimal_by_steps (λ m ds. ds ≡ decimal m) (λ m small. sym (decimal_one m small)) (λ m ds more e. rw (decimal_more m more, e)) n h
-
-pub decimal_short : (n : ℕ) → n < 2 ^ 32 → length (decimal n) ≤ 10
-decimal_short n h = rw (← decimal_text n (omega arith)) (length-decimal-le 10 n (omega arith) (omega arith) (omega arith))

@@ -38,6 +38,9 @@ pub flags_row : (o : Outcome) → row_of (flag_cells o) ≡ cond o.ofdm_refused 
 unfolding row_of ended
 flags_row o = rw (flag_digit o.ofdm_refused, flag_digit o.ended, flag_digit o.begun) refl
 
+pub flags_length : (o : Outcome) → length (row_of (flag_cells o)) ≡ 6
+flags_length o = ap length (flags_row o)
+
 -- ---- a line, from its second field on
 pub refused_next : (event : ℕ) (why : Refusal) → Next (line_bytes event (Err why)) (ended (Number event) 32) (refused_bytes why)
 unfolding line_bytes refused_bytes
@@ -72,5 +75,5 @@ answered_row event o =
       ended_length (Number event) 32,
       ended_length (Number o.choice.0) 32,
       ended_length (tried_cell o.tried) 32,
-      ap length (flags_row o),
+      flags_length o,
     )

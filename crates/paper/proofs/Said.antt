@@ -13,7 +13,7 @@ use Rattle.rate.specs.declared.types.Answer.{Answer}
 use Rattle.rate.specs.Calls.{Call, step}
 use Rattle.question.specs.File.{event_count}
 use Rattle.question.proofs.Over.{Next}
-use Rattle.question.proofs.Ranges.{length_tabulate}
+use Rattle.ladder.proofs.Tabulating.{length_tabulate}
 use Rattle.paper.specs.Sheet.{Line, Score, call_at, calls_of, line_by, line_of, line_bytes, lines_from, sheet_of, scored_by, scored, score_from, score_of}
 use Rattle.paper.specs.bridges.Said.{said_from, said, text_from, scored_line, score_lines}
 

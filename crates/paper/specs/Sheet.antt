@@ -4,12 +4,11 @@ use Rattle.limits.specs.Refusals.{refusal_number, unless, or_else, Verdict}
 use Rattle.limits.specs.declared.refusal.Refusal.{Refusal}
 use Rattle.limits.specs.declared.refusal.Refusal.TheVariants.{SheetRoom, AnswerCount}
 use Rattle.ladder.specs.Lists.{tabulate}
-use Rattle.rules.specs.Echo.{refuses}
 use Rattle.rate.specs.declared.types.RateController.{RateController}
 use Rattle.rate.specs.declared.types.Answer.{Answer}
 use Rattle.ladder.specs.declared.types.Rung.{Rung}
 use Rattle.rate.specs.Calls.{Call, step}
-use Rattle.rate.specs.Reads.{choice_of, probing_of}
+use Rattle.rate.specs.Reads.{choice_of, probing_of, ofdm_refused}
 use Rattle.question.specs.Body.{call_of}
 use Rattle.question.specs.File.{event_count, air, body_at, file_verdict}
 use Rattle.question.specs.Start.{fresh_for}
@@ -26,10 +25,6 @@ unfoldable pub calls_of : List ℕ → List Call
 calls_of s = tabulate (event_count s) 0 (call_at s)
 
 -- ---- a line
--- "OFDM refused": what `refuses` says of every OFDM rung, of which the floor count is one
-abbrev pub ofdm_refused : RateController → Bool
-ofdm_refused k = refuses k.table k.state k.table.air.floors
-
 -- what is said of an event: choice, tried rung, OFDM refused, ended and begun, or its refusal
 abbrev pub Line : Type 0
 Line = Result Outcome Refusal

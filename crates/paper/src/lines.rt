@@ -12,7 +12,8 @@ use ladder::types::Rung;
 use limits::refusal::Refusal;
 
 // ---- pieces
-// The tried rung or `-`, and a space.
+// The tried rung or `-`, and a space. (A `match`, here and in `write_line`: the two closures of `map_or_else` would both hold `out`, which is lent once.)
+#[tactic(auto, unfolding(crate::specs::Lines::ended))]
 fn write_tried(out: &mut [u8], tried: Option<Rung>) -> usize
     requires { length (ended (tried_cell tried) 32) ≤ length out.old }
     ensures value { result ≡ length (ended (tried_cell tried) 32) }
@@ -28,10 +29,11 @@ fn write_tried(out: &mut [u8], tried: Option<Rung>) -> usize
 fn digit(flag: bool) -> u8
     ensures { result ≡ (if flag then 49 else 48) }
 {
-    if flag { b'1' } else { b'0' }
+    b'0' + u8::from(flag)
 }
 
 // The three flags that end the line of an answered event.
+#[tactic(auto, using(crate::proofs::Pieces::flags_row))]
 fn write_flags(out: &mut [u8], o: Outcome) -> usize
     requires { length (row_of (flag_cells o)) ≤ length out.old }
     ensures value { result ≡ length (row_of (flag_cells o)) }
@@ -49,6 +51,7 @@ fn write_flags(out: &mut [u8], o: Outcome) -> usize
 }
 
 // `refused` and the number.
+#[tactic(auto, using(question::proofs::Over::partly_first, question::proofs::Over::partly_within, question::proofs::Over::partly_total, question::proofs::Over::last_room, crate::proofs::Lent::word_whole, crate::proofs::Pieces::row_two, crate::proofs::Pieces::length_refused), unfolding(crate::specs::Lines::ended, crate::specs::Sheet::refused_bytes))]
 pub(crate) fn write_refused(out: &mut [u8], why: Refusal) -> usize
     requires { length (refused_bytes why) ≤ length out.old }
     ensures value { result ≡ length (refused_bytes why) }
@@ -60,6 +63,7 @@ pub(crate) fn write_refused(out: &mut [u8], why: Refusal) -> usize
 
 // ---- lines
 // The line of an answered event.
+#[tactic(auto, using(crate::proofs::Lent::one, crate::proofs::Lent::two, crate::proofs::Lent::three, crate::proofs::Lent::flags_room, crate::proofs::Lent::flags_whole, question::proofs::Over::partly_within, question::proofs::Over::partly_total, question::proofs::Over::last_room, question::proofs::Over::piece_fits, question::proofs::Over::piece_room, crate::proofs::Pieces::choice_next, crate::proofs::Pieces::tried_next, crate::proofs::Pieces::flags_next, crate::proofs::Pieces::answered_row, crate::proofs::Pieces::flags_length, crate::proofs::Pieces::ended_length))]
 fn write_answered(out: &mut [u8], event: u32, o: Outcome) -> usize
     requires { length (line_bytes event (Ok o)) ≤ length out.old }
     ensures value { result ≡ length (line_bytes event (Ok o)) }
@@ -72,6 +76,7 @@ fn write_answered(out: &mut [u8], event: u32, o: Outcome) -> usize
 }
 
 // The line of a refused event.
+#[tactic(auto, using(crate::proofs::Lent::told, crate::proofs::Lent::told_whole, question::proofs::Over::partly_within, question::proofs::Over::partly_total, question::proofs::Over::last_room, crate::proofs::Pieces::refused_row, crate::proofs::Pieces::ended_length))]
 fn write_turned_away(out: &mut [u8], event: u32, why: Refusal) -> usize
     requires { length (line_bytes event (Err why)) ≤ length out.old }
     ensures value { result ≡ length (line_bytes event (Err why)) }
@@ -103,20 +108,19 @@ pub(crate) fn write_line(out: &mut [u8], event: u32, line: Line) -> usize
 fn tried_length(tried: Option<Rung>) -> usize
     ensures { (result ≡ length (cell_bytes (tried_cell tried))) × (result ≤ 10) }
 {
-    match tried {
-        Some(rung) => digits_of(rung.0),
-        None => 1,
-    }
+    tried.map_or(1, |rung| digits_of(rung.0))
 }
 
 // How long the line of `refused` and the number is.
+#[tactic(auto, using(crate::proofs::Pieces::length_refused))]
 pub(crate) fn refused_length(why: Refusal) -> usize
     ensures { (result ≡ length (refused_bytes why)) × (result ≤ 19) }
 {
     9 + digits_of(why.number())
 }
 
-// How long an event's line is.
+// How long an event's line is. (A `match`: `map_or_else` would be a closure for each arm, the second first.)
+#[tactic(auto, using(crate::proofs::Pieces::refused_row, crate::proofs::Pieces::answered_row))]
 pub(crate) fn line_length(event: u32, line: Line) -> usize
     ensures { (result ≡ length (line_bytes event line)) × (result ≤ 39) }
 {

@@ -14,27 +14,22 @@ fn score(m: Score, line: Line, answer: u8) -> Score
     requires { (m.right < 4294967295) × (m.counted < 4294967295) }
     ensures { result ≡ scored_line m line answer }
 {
-    match line {
-        Ok(o) => {
-            let point = if answer as u32 == o.choice.0 { 1 } else { 0 };
-            Score {
-                right: m.right + point,
-                counted: m.counted + 1,
-            }
-        }
-        Err(_) => m,
-    }
+    line.map_or(
+        m,
+        |o| Score {
+            right: m.right + u32::from(u32::from(answer) == o.choice.0),
+            counted: m.counted + 1,
+        },
+    )
 }
 
 // The score of as many answers as there are lines.
+#[tactic(auto, using(crate::proofs::Said::score_next, crate::proofs::Said::score_end, crate::proofs::Said::scored_most, std::proofs::lemmas::Slice::Zip::zip_turn, std::proofs::lemmas::Slice::Zip::zip_end))]
 fn score_all(lines: &[Line], answers: &[u8]) -> Score
     requires { length lines.now < 2 ^ 32 }
     ensures { result ≡ score_lines (record { right = 0; counted = 0 }) lines.now answers.now }
 {
-    let mut m = Score {
-        right: 0,
-        counted: 0,
-    };
+    let mut m = Score::default();
     for (line, answer) in lines.iter().zip(answers) {
         m = score(m, *line, *answer);
     }
@@ -42,6 +37,7 @@ fn score_all(lines: &[Line], answers: &[u8]) -> Score
 }
 
 // How many answers are right, and how many count. Refused: 10, 11, 12, 14.
+#[tactic(auto, using(question::proofs::Events::few_events, crate::proofs::Said::said_length, crate::proofs::Said::score_text), unfolding(crate::specs::Sheet::mark_verdict, crate::specs::Sheet::mark_answer))]
 pub fn mark(question: &[u8], answers: &[u8]) -> Result<Score, Refusal>
     ensures { result ≡ mark_answer question.now answers.now }
 {

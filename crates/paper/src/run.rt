@@ -2,7 +2,7 @@
 ghost use Rattle.std.specs.Prelude.{◌≡◌, ◌≤◌, length};
 ghost use Rattle.rate.specs.bridges.Replies.{answer_of};
 ghost use Rattle.question.specs.File.{event_count};
-ghost use Rattle.paper.specs.Sheet.{ofdm_refused, line_of};
+ghost use Rattle.paper.specs.Sheet.{line_of};
 ghost use Rattle.paper.specs.bridges.Said.{said};
 
 use crate::types::{Line, Outcome};
@@ -14,13 +14,6 @@ use question::start::fresh_for;
 use rate::player::Player;
 use rate::types::{RateController, Reply};
 
-// Whether every OFDM rung is refused: the first one is past the floor rungs, and what is said of it is said of all.
-fn refuses_ofdm(k: &RateController) -> bool
-    ensures { result ≡ ofdm_refused k.now }
-{
-    k.refuses(Rung(k.table.air.floors))
-}
-
 // What an event's line says of what its call left and returned.
 #[tactic(auto, unfolding(crate::specs::Sheet::line_of))]
 fn line_of(k: &RateController, reply: Reply) -> Line
@@ -30,7 +23,7 @@ fn line_of(k: &RateController, reply: Reply) -> Line
     Ok(Outcome {
         choice: k.choice(),
         tried: k.probing(),
-        ofdm_refused: refuses_ofdm(k),
+        ofdm_refused: k.refuses_ofdm(),
         ended: marks.ended,
         begun: marks.begun,
     })
@@ -45,15 +38,21 @@ const NO_LINE: Line = Ok(Outcome {
     begun: false,
 });
 
-// The lines of a file's events, one for each place of the slice.
+// The lines of a file's events, one for each place of the slice. (Not by `zip` with the bodies: of what is written through an adapter of `iter_mut` a
+// proof is told nothing. The `break` is never taken.)
+#[tactic(auto, using(question::proofs::Events::bodies_next, crate::proofs::Running::filled_start, crate::proofs::Running::filled_next, crate::proofs::Running::filled_end))]
 fn run(file: &[u8], lines: &mut [Line])
     requires { length lines.old ≡ event_count file.now }
     ensures { lines.new ≡ said file.now }
 {
     let mut player = Player::new(fresh_for(air(file)));
-    for (i, body) in Reader::new(file).enumerate() {
+    let mut bodies = Reader::new(file);
+    for line in lines.iter_mut() {
+        let Some(body) = bodies.next() else {
+            break;
+        };
         let reply = play(&mut player, body);
-        lines[i] = line_of(player.controller(), reply);
+        *line = line_of(player.controller(), reply);
     }
 }
 
@@ -78,8 +77,8 @@ pub(crate) fn with_lines<R, F: FnMut(&[Line]) -> R>(file: &[u8], read: &mut F) -
     ensures { (p : _) × (p.now ≡ said file.now) × F.step read.old p result read.new }
 {
     match event_count(file) {
-        0..=50 => read_in::<50, R, F>(file, read),
-        51..=250 => read_in::<250, R, F>(file, read),
-        _ => read_in::<1000, R, F>(file, read),
+        0..=50 => read_in::<50, _, _>(file, read),
+        51..=250 => read_in::<250, _, _>(file, read),
+        _ => read_in::<1000, _, _>(file, read),
     }
 }

@@ -11,8 +11,9 @@ use crate::types::Line;
 use limits::refusal::Refusal;
 use question::verdict::file_verdict;
 
-// How long the lines are. That they are 1,000 at most stands in three contracts here, each time as a number may not overflow or is handed on: a
-// struct of a slice with that invariant would be made in `sheet` of what `with_lines` lends, and taken apart by each of the three.
+// How long the lines are. (That they are 1,000 at most stands in three contracts here: of the two loops over them, whose numbers are to fit, and of the
+// function that calls both. A struct with that invariant would be made of what `with_lines` lends, for one caller. An event's number is `i as u32 + 1`,
+// and not what `(1u32..).zip(lines)` gives: std's lemmas say nothing of what an open range yields.)
 fn measure_lines(lines: &[Line]) -> usize
     requires { length lines.now ≤ 1000 }
     ensures { result ≡ length (text_from 1 lines.now) }
@@ -25,6 +26,7 @@ fn measure_lines(lines: &[Line]) -> usize
 }
 
 // The lines at the start of the slice, in which they have room: each goes after the bytes already written. Returns how many bytes they took.
+#[tactic(auto, using(question::proofs::Over::partly_start, crate::proofs::Lent::line_written))]
 fn write_lines(lines: &[Line], out: &mut [u8]) -> usize
     requires few { length lines.now ≤ 1000 }
     requires room { length (text_from 1 lines.now) ≤ length out.old }
@@ -38,7 +40,8 @@ fn write_lines(lines: &[Line], out: &mut [u8]) -> usize
     len
 }
 
-// The sheet of a file whose lines these are, if it has room.
+// The sheet of a file whose lines these are, if it has room. (`file` stands for the contract alone: a call in a closure cannot be handed a ghost value.)
+#[tactic(auto, using(crate::proofs::Said::sheet_text))]
 fn fit_sheet(file: &[u8], lines: &[Line], out: &mut [u8]) -> Result<usize, Refusal>
     requires lines_value { lines.now ≡ said file.now }
     requires few { length lines.now ≤ 1000 }
@@ -53,6 +56,7 @@ fn fit_sheet(file: &[u8], lines: &[Line], out: &mut [u8]) -> Result<usize, Refus
 }
 
 // The sheet of a question file, at the start of the slice. Refused: 10, 11, 12, 13, and the slice is left as it was.
+#[tactic(auto, using(question::proofs::Events::few_events, crate::proofs::Said::said_length), unfolding(crate::specs::Sheet::sheet_verdict, crate::specs::Sheet::sheet_answer, crate::specs::Sheet::sheet_left))]
 pub fn sheet(question: &[u8], out: &mut [u8]) -> Result<usize, Refusal>
     ensures value { result ≡ sheet_answer question.now out.old }
     ensures out_after { out.new ≡ sheet_left question.now out.old }
@@ -63,6 +67,7 @@ pub fn sheet(question: &[u8], out: &mut [u8]) -> Result<usize, Refusal>
 }
 
 // The line of a refused file, if it has room.
+#[tactic(auto, unfolding(crate::specs::Sheet::fitting, question::specs::Over::over))]
 fn print_refused(out: &mut [u8], why: Refusal) -> usize
     ensures value { result ≡ length (fitting (refused_bytes why) out.old) }
     ensures out_after { out.new ≡ over (fitting (refused_bytes why) out.old) out.old }
@@ -75,6 +80,8 @@ fn print_refused(out: &mut [u8], why: Refusal) -> usize
 }
 
 // What the program prints of a question file, at the start of the slice: the sheet, or the line of a refused file. Returns how many bytes it took.
+// (`unwrap_or_else` was tried: of what its closure, an `FnOnce`, leaves in the slice that it captured a proof is told nothing.)
+#[tactic(auto, using(crate::proofs::Printed::printed_sheet, crate::proofs::Printed::printed_refused))]
 pub fn print_sheet(question: &[u8], out: &mut [u8]) -> usize
     ensures value { result ≡ length (printed_in question.now out.old) }
     ensures out_after { out.new ≡ over (printed_in question.now out.old) out.old }

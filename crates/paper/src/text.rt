@@ -1,23 +1,22 @@
-// Pieces of a line, each written at the start of a slice that has room for it. The writers are inner: each caller has shown that the piece has room. All
-// return how many bytes they took.
+// Pieces of a line, each written at the start of a slice that has room for it. All return how many bytes they took.
 //
-// Why the writers here, in `lines` and in `sheet` are as they are. Not `Display` and `write!`: std promises what these wrote where they answer Ok,
-// and not when they do, and `sheet` promises its text wherever it has room. Not a String: the slice is the caller's (C's, of `paper_sheet`), and the
-// library allocates nothing. A length is answered, and not the slice that was written, since the caller writes on behind it in the same slice. Each
-// promises its own piece at the slice's start and the rest as it was (`over`): a struct of a slice and a length would say as much of its fields in
-// each method, and be one type more.
+// The form of the writers here, in `lines` and in `sheet` is a rule of document 01, which gives "Each line goes after the bytes already written" the form
+// "part of the output slice from the current length is lent on to the line writer". So each takes a slice, promises its piece at the start of it and the
+// rest as it was (`over`), and answers its length, from which the caller lends on. A String is out of the question, since the library allocates nothing.
 ghost use Rattle.std.specs.Prelude.{◌≡◌, ◌≤◌, length};
 ghost use Rattle.question.specs.Over.{over};
 ghost use Rattle.paper.specs.Lines.{Number, decimal, ended};
 
-// How many digits a number has. `checked_ilog10` proves as well, but the numbers of a sheet are short, and it makes one of echo and silence 2 % slower.
+// How many digits a number has.
+#[tactic(auto, using(crate::proofs::Decimal::length_log, crate::proofs::Decimal::length_zero))]
 pub(crate) fn digits_of(n: u32) -> usize
     ensures { (result ≡ length (decimal n)) × (result ≤ 10) }
 {
-    if n < 10 { 1 } else { digits_of(n / 10) + 1 }
+    n.checked_ilog10().map_or(1, |log| log as usize + 1)
 }
 
 // A number in decimal.
+#[tactic(auto, using(crate::proofs::Decimal::decimal_text), unfolding(question::specs::Over::over))]
 fn write_number(out: &mut [u8], n: u32) -> usize
     requires { length (decimal n) ≤ length out.old }
     ensures value { result ≡ length (decimal n) }
@@ -29,6 +28,7 @@ fn write_number(out: &mut [u8], n: u32) -> usize
 }
 
 // A number and the byte after it.
+#[tactic(auto, using(crate::proofs::Pieces::ended_length, crate::proofs::Lent::ended_put))]
 pub(crate) fn write_field(out: &mut [u8], n: u32, end: u8) -> usize
     requires { length (ended (Number n) end) ≤ length out.old }
     ensures value { result ≡ length (ended (Number n) end) }
@@ -40,6 +40,7 @@ pub(crate) fn write_field(out: &mut [u8], n: u32, end: u8) -> usize
 }
 
 // Bytes as they are.
+#[tactic(auto, unfolding(question::specs::Over::over))]
 pub(crate) fn write_bytes(out: &mut [u8], src: &[u8]) -> usize
     requires { length src.now ≤ length out.old }
     ensures value { result ≡ length src.now }

@@ -1,6 +1,6 @@
 -- The whole chunks of n elements that stand in a list from a place on, as `chunks_exact` gives them. Assumes nothing.
-use mathlib.Core.Path.{◌≡◌, sym, ap, ◌∙◌}
-use mathlib.Core.List.{List}
+use mathlib.Core.Path.{◌≡◌, refl, sym, ap, ◌∙◌}
+use mathlib.Core.List.{List, ◌∷◌}
 use Prim.Native.Nat.{ℕ, zero, suc, ◌+◌, ◌-◌, ◌*◌, ◌≤◌, ◌<◌}
 use native.Mathlib.Omega.{arith}
 use lib.ListN.{length, take, drop, length-append, length-drop}
@@ -9,6 +9,7 @@ use denote.Ref.{Bor}
 use Rattle.std.proofs.Common.{Some, mul-suc, mul-zero}
 use Rattle.std.specs.declared.slice.ChunksExact.{ChunksExact}
 use Rattle.std.specs.Iterator.{AlwaysYields}
+use Rattle.std.specs.Simd.{first_chunks}
 use Rattle.std.specs.Slice.Iter.{chunks_exact_size, chunks_exact_rest, chunks_exact_steps}
 use Rattle.std.proofs.lemmas.Iterator.{YieldsList}
 use Rattle.ladder.specs.Lists.{tabulate}
@@ -53,3 +54,15 @@ module _ {A : Type 0} (xs : List A) (base n : ℕ) where
       let place : base ≡ base + n * 0 = omega (arith, mul-zero n) in
       let long : length (chunks_exact_rest s) ≡ length xs - base = ap length f ∙ length-drop base xs in
       record { runs = chunks_yield m 0 s (record { size = e; rest = f ∙ ap (λ k. drop k xs) place; enough = omega (arith, long); few = omega (arith, long) }) }
+
+  -- the same, as `as_chunks` gives them
+  chunks_from : (m i : ℕ) → first_chunks n m (drop (base + n * i) xs) ≡ tabulate m i chunk
+  chunks_from zero i = refl
+  chunks_from (suc m) i =
+      let place : base + n * i + n ≡ base + n * suc i = omega (arith, mul-suc n i) in
+      ap (λ cs. chunk i ∷ cs) (ap (first_chunks n m) (drop-drop n (base + n * i) xs ∙ ap (λ k. drop k xs) place) ∙ chunks_from m (suc i))
+
+  pub first_chunks_all : (m : ℕ) → first_chunks n m (drop base xs) ≡ tabulate m 0 chunk
+  first_chunks_all m =
+      let place : base ≡ base + n * 0 = omega (arith, mul-zero n) in
+      ap (λ k. first_chunks n m (drop k xs)) place ∙ chunks_from m 0

@@ -23,7 +23,8 @@ use denote.Ref.{Bor}
 use Rattle.question.specs.declared.reader.Reader.{Reader}
 use Rattle.question.specs.Body.{ok_body}
 use Rattle.question.specs.File.{event_count, air, known_air, ok_header, body_at, bodies_from, ok_body_at, ok_bodies, file_verdict}
-use Rattle.question.proofs.Ranges.{length_tabulate, tabulate_at, tabulate_all, tabulate_next, tabulate_none, all_tabulate}
+use Rattle.ladder.proofs.Tabulating.{length_tabulate, tabulate_at}
+use Rattle.question.proofs.Ranges.{tabulate_all, tabulate_next, tabulate_none, all_tabulate}
 
 -- ---- the bodies that are left
 pub bodies_next : (s : List ℕ) (i : ℕ) → i < event_count s → bodies_from s i ≡ body_at s i ∷ bodies_from s (i + 1)
@@ -39,9 +40,9 @@ pub length_bodies : (s : List ℕ) → length (bodies_from s 0) ≡ event_count 
 unfolding bodies_from
 length_bodies s = ap length (tabulate_all (body_at s) (event_count s)) ∙ length_tabulate (event_count s) 0 (body_at s)
 
-bodies_at : (s : List ℕ) (n : ℕ) (d : List ℕ) → n < event_count s → get_or (bodies_from s 0) n d ≡ body_at s n
+pub bodies_at : (s : List ℕ) (n : ℕ) (d : List ℕ) → n < event_count s → get_or (bodies_from s 0) n d ≡ body_at s n
 unfolding bodies_from
-bodies_at s n d h = let q : 0 + n ≡ n = omega arith in ap (λ bs. get_or bs n d) (tabulate_all (body_at s) (event_count s)) ∙ tabulate_at (event_count s) 0 n (body_at s) d h ∙ ap (body_at s) q
+bodies_at s n d h = let q : 0 + n ≡ n = omega arith in ap (λ bs. get_or bs n d) (tabulate_all (body_at s) (event_count s)) ∙ tabulate_at (event_count s) 0 (body_at s) n d h ∙ ap (body_at s) q
 
 -- ---- with their numbers, as `enumerate` gives them of a reader that has all of them left
 abbrev left : Reader → List (List ℕ)

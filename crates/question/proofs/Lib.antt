@@ -1,8 +1,8 @@
 pub mod Ranges
 pub mod Chunks
-pub mod Arrays
 pub mod Over
 pub mod Bodies
+mod Numbers
 pub mod Pairs
 pub mod Events
 pub mod Held

@@ -28,7 +28,7 @@ over_over ds es old = rw (drop-drop, length-append, append_assoc)
 
 -- a list of m entries that has those of another, and d past them
 module _ {A : Type 0} (d : A) (xs : List A) (m : ℕ) where
-  filled_read : (i : ℕ) → i < m → get_or (over (take m xs) (replicate m d)) i d ≡ get_or xs i d
+  pub filled_read : (i : ℕ) → i < m → get_or (over (take m xs) (replicate m d)) i d ≡ get_or xs i d
   unfolding over
   filled_read i h = go (leb (length (take m xs)) i) refl
     where

@@ -1,13 +1,13 @@
 -- Tests of all the numbers from one up to another, and the list that is made of them. Assumes nothing.
-use mathlib.Core.Path.{◌≡◌, refl, ap, ◌∙◌}
+use mathlib.Core.Path.{◌≡◌, refl, ap}
 use mathlib.Core.Bool.{Bool}
 use mathlib.Core.List.{[], ◌∷◌}
 use Prim.Native.Nat.{ℕ, zero, suc, ◌+◌, ◌-◌, ◌≤◌, ◌<◌}
 use native.Mathlib.Numerals.{add-one}
 use native.Mathlib.Omega.{arith}
-use lib.ListN.{length, get_or}
 use Rattle.std.specs.List.{list_all}
-use Rattle.ladder.specs.Lists.{every, tabulate}
+use Rattle.ladder.specs.Lists.{tabulate}
+use Rattle.ladder.proofs.Ranges.{left, none_left}
 use Rattle.question.specs.Body.{all_from}
 
 -- ---- whether all pass
@@ -18,20 +18,6 @@ all_same zero i f g e = refl
 all_same (suc n) i f g e = rw (e i, all_same n (suc i) f g e)
 
 -- ---- the list that is made
-pub length_tabulate : {A : Type 0} (n i : ℕ) (f : ℕ → A) → length (tabulate n i f) ≡ n
-length_tabulate zero i f = refl
-length_tabulate (suc n) i f = ap suc (length_tabulate n (suc i) f)
-
-pub tabulate_at : {A : Type 0} (n i j : ℕ) (f : ℕ → A) (d : A) → j < n → get_or (tabulate n i f) j d ≡ f (i + j)
-tabulate_at zero i j f d h = absurd (omega arith)
-tabulate_at (suc n) i zero f d h = let q : i ≡ i + 0 = omega arith in ap f q
-tabulate_at (suc n) i (suc j) f d h = let q : suc i + j ≡ i + suc j = omega arith in tabulate_at n (suc i) j f d (omega arith) ∙ ap f q
-
-pub every_tabulate : {A : Type 0} (n i : ℕ) (f : ℕ → A) (g : A → Bool) → every g (tabulate n i f) ≡ all_from n i (λ j. g (f j))
-unfolding all_from
-every_tabulate zero i f g = refl
-every_tabulate (suc n) i f g = rw (every_tabulate n (suc i) f g)
-
 pub all_tabulate : {A : Type 0} (n i : ℕ) (f : ℕ → A) (g : A → Bool) → list_all g (tabulate n i f) ≡ all_from n i (λ j. g (f j))
 unfolding all_from
 all_tabulate zero i f g = refl
@@ -43,7 +29,7 @@ module _ {A : Type 0} (f : ℕ → A) (n : ℕ) where
   tabulate_all = let q : n - 0 ≡ n = omega arith in ap (λ m. tabulate m 0 f) q
 
   pub tabulate_next : (i : ℕ) → i < n → tabulate (n - i) i f ≡ f i ∷ tabulate (n - (i + 1)) (i + 1) f
-  tabulate_next i h = let q : n - i ≡ suc (n - (i + 1)) = omega arith in rw (q, add-one i) refl
+  tabulate_next i h = rw (left h, add-one i) refl
 
   pub tabulate_none : (i : ℕ) → n ≤ i → tabulate (n - i) i f ≡ []
-  tabulate_none i h = let q : n - i ≡ 0 = omega arith in rw q
+  tabulate_none i h = rw (none_left h) refl

@@ -7,11 +7,12 @@ ghost use Rattle.question.specs.Body.{all_from, frame_count, ok_flags, ok_frames
 use crate::bytes::{byte_at, f64_of, ok_reading, past, u16_of};
 use crate::types::Kind;
 use ladder::types::Rung;
+use limits::values::ok_burst;
 use rules::types::Frame;
 use std::array;
 
-// How many frames a body of frames has. (`burst_count` differs in two numbers: a function that takes them would be called by these two alone, and say
-// less than the one line of each.)
+// How many frames a body of frames has. (`burst_count` differs in two numbers: a function that takes them would be called by these two alone, and say less
+// than the one line of each. So do `frame_at` and `burst_at`, `frames_of` and `bursts_of`, `ok_flags` and `ok_bursts`: what they share is std's walk.)
 pub fn frame_count(body: &[u8]) -> usize
     ensures { result ≡ frame_count body.now }
 {
@@ -127,15 +128,11 @@ const NO_FRAME: Frame = Frame {
 };
 
 // The i-th frame, from 0, or what stands past the last.
-#[tactic(auto, using(crate::proofs::Bodies::frame_at_lem, crate::proofs::Bodies::frame_past))]
 fn frame_at(body: &[u8], i: usize) -> Frame
     ensures { result ≡ slice_index_or (frames_in body.now) i no_frame }
 {
-    if i < frame_count(body) {
-        frame_of(past(body, 10 + 12 * i))
-    } else {
-        NO_FRAME
-    }
+    let (frames, _) = past(body, 10).as_chunks::<12>();
+    frames.get(i).map_or(NO_FRAME, |frame| frame_of(frame))
 }
 
 // The first N frames of a body of frames, and past the last no frames.
@@ -158,19 +155,15 @@ pub(crate) fn ok_bursts(body: &[u8]) -> bool
 {
     past(body, 25)
         .chunks_exact(2)
-        .all(|count| u16_of(count) <= 1000)
+        .all(|count| ok_burst(u32::from(u16_of(count))))
 }
 
 // The i-th burst count, from 0, or 0 past the last.
-#[tactic(auto, using(crate::proofs::Bodies::burst_at_lem, crate::proofs::Bodies::burst_past))]
 fn burst_at(body: &[u8], i: usize) -> u32
     ensures { result ≡ slice_index (bursts_in body.now) i }
 {
-    if i < burst_count(body) {
-        u32::from(u16_of(past(body, 25 + 2 * i)))
-    } else {
-        0
-    }
+    let (counts, _) = past(body, 25).as_chunks::<2>();
+    counts.get(i).map_or(0, |count| u32::from(u16_of(count)))
 }
 
 // The first 32 burst counts of a body of prices, and zeros past the last.

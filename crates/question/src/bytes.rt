@@ -1,9 +1,11 @@
 // Numbers in bytes, little-endian: each function reads what stands at the start of the bytes that it is given, and a byte past their end reads as 0.
 ghost use Rattle.std.specs.Prelude.{◌≡◌, drop, take};
 ghost use Rattle.question.specs.Bytes.{byte, le16, le32, le64, float, ok_reading, reading_of};
+ghost use Rattle.question.specs.Body.{first_of};
 
 use float::bits::float_of;
 use limits::reading::Reading;
+use std::array;
 
 // The bytes from a place on.
 pub fn past(bytes: &[u8], at: usize) -> &[u8]
@@ -27,36 +29,37 @@ pub fn byte_at(bytes: &[u8], at: usize) -> u8
     bytes.get(at).copied().unwrap_or(0)
 }
 
-// Two bytes as a number. Not by `first_chunk`, which has no bytes to give past the end.
-#[tactic(auto, unfolding(crate::specs::Bytes::le16))]
+// (Functions, and no `From`: each reads the start of a longer slice. What `u16_of`, `u32_of` and `u64_of` have in common is `first`: std has no trait over
+// `from_le_bytes`, and one of our own would need a law and an impl for each.)
+// The first N bytes. (Not by `first_chunk`, which has no bytes to give past the end.)
+fn first<const N: usize>(bytes: &[u8]) -> [u8; N]
+    ensures { result ≡ first_of N 0 bytes.now }
+{
+    array::from_fn(|i| byte_at(bytes, i))
+}
+
+// Two bytes as a number.
+#[tactic(auto, using(crate::proofs::Numbers::le16_first))]
 pub fn u16_of(bytes: &[u8]) -> u16
     ensures { result ≡ le16 bytes.now }
 {
-    u16::from_le_bytes([byte_at(bytes, 0), byte_at(bytes, 1)])
+    u16::from_le_bytes(first(bytes))
 }
 
 // Four bytes.
-#[tactic(auto, unfolding(crate::specs::Bytes::le32))]
+#[tactic(auto, using(crate::proofs::Numbers::le32_first))]
 pub fn u32_of(bytes: &[u8]) -> u32
     ensures { result ≡ le32 bytes.now }
 {
-    u32::from_le_bytes([
-        byte_at(bytes, 0),
-        byte_at(bytes, 1),
-        byte_at(bytes, 2),
-        byte_at(bytes, 3),
-    ])
+    u32::from_le_bytes(first(bytes))
 }
 
-// Eight bytes, in two halves as the definition has them: `u64::from_le_bytes` would be handed eight bytes, each read by itself, where `u32_of` reads
-// four.
-#[tactic(auto, unfolding(crate::specs::Bytes::le64))]
+// Eight bytes.
+#[tactic(auto, using(crate::proofs::Numbers::le64_first))]
 pub fn u64_of(bytes: &[u8]) -> u64
     ensures { result ≡ le64 bytes.now }
 {
-    let low = u32_of(bytes);
-    let high = u32_of(past(bytes, 4));
-    u64::from(low) + (u64::from(high) << 32)
+    u64::from_le_bytes(first(bytes))
 }
 
 // Eight bytes as an f64; every NaN pattern gives the NaN.

@@ -16,8 +16,10 @@ use rate::moves::ok_lengths;
 use rate::player::Player;
 use rate::types::{Answer, RateController, Reply};
 
-// The call of a body of at most N frames.
-fn frames_in<const N: usize>(p: &mut Player, body: &[u8]) -> Reply
+// The call of a body of at most N frames. (Here and in `prices_event` what a body holds is made an array with its count beside, since a call takes a slice
+// of its frames, or of its burst counts, and the library allocates nothing.)
+#[tactic(auto, using(crate::proofs::Bodies::length_frames, crate::proofs::Held::all_held))]
+fn observe_in<const N: usize>(p: &mut Player, body: &[u8]) -> Reply
     requires room { frame_count body.now ≤ N }
     requires small { N ≤ 256 }
     ensures { answer_of p.new result ≡ step p.old (Frames (frames_in body.now) (reading_of (drop 1 body.now))) }
@@ -27,13 +29,14 @@ fn frames_in<const N: usize>(p: &mut Player, body: &[u8]) -> Reply
 }
 
 // Kind 1. Refused: 6, 7, 8. A transmission mostly has one frame, and a short array is sooner made.
+#[tactic(auto, using(crate::proofs::Bodies::length_frames, crate::proofs::Held::many_frames))]
 fn frames_event(p: &mut Player, body: &[u8]) -> Reply
     ensures { answer_of p.new result ≡ step p.old (Frames (frames_in body.now) (reading_of (drop 1 body.now))) }
 {
     match frame_count(body) {
-        0..=1 => frames_in::<1>(p, body),
-        2..=16 => frames_in::<16>(p, body),
-        17..=256 => frames_in::<256>(p, body),
+        0..=1 => observe_in::<1>(p, body),
+        2..=16 => observe_in::<16>(p, body),
+        17..=256 => observe_in::<256>(p, body),
         _ => Err(Refusal::TooManyFrames),
     }
 }
@@ -70,13 +73,14 @@ fn families_event(p: &mut Player, body: &[u8]) -> Reply
 
 // Whether the lengths of a body of prices and its burst counts, however many, are within their limits. The three lengths go as `ok_lengths` and the
 // public `price_exchanges` take them: a struct of them would be made in `prices_event` and taken apart for each of the two.
-fn ok_prices(floor: f64, ordinary: f64, gap: f64, body: &[u8]) -> bool
+fn within_prices(floor: f64, ordinary: f64, gap: f64, body: &[u8]) -> bool
     ensures { result ≡ (ok_length floor && ok_length ordinary && ok_length gap && every ok_burst (bursts_in body.now)) }
 {
     ok_lengths(floor, ordinary, gap) && ok_bursts(body)
 }
 
 // Kind 6. Refused: 8, a count past the 32nd included, then 9.
+#[tactic(auto, using(crate::proofs::Bodies::length_bursts, crate::proofs::Held::all_held, crate::proofs::Held::price_too_many, crate::proofs::Held::price_outside))]
 fn prices_event(p: &mut Player, body: &[u8]) -> Reply
     ensures { answer_of p.new result ≡ step p.old (Price (float (drop 1 body.now)) (float (drop 9 body.now)) (float (drop 17 body.now)) (bursts_in body.now)) }
 {
@@ -87,7 +91,7 @@ fn prices_event(p: &mut Player, body: &[u8]) -> Reply
     if count <= 32 {
         return p.price_exchanges(floor, ordinary, gap, &bursts_of(body)[..count]);
     }
-    if ok_prices(floor, ordinary, gap, body) {
+    if within_prices(floor, ordinary, gap, body) {
         return Err(Refusal::TooManyBursts);
     }
     Err(Refusal::OutsideLimits)

@@ -1,6 +1,7 @@
 // A question file: its header, its pairs and where the bodies of its events stand. Each function answers for every list of bytes.
-ghost use Rattle.std.specs.Prelude.{◌≡◌};
-ghost use Rattle.question.specs.File.{event_count, air, ok_header, offset_at, length_at, ok_pairs, body_at};
+ghost use Rattle.std.specs.Prelude.{◌≡◌, drop};
+ghost use Rattle.question.specs.Bytes.{le32};
+ghost use Rattle.question.specs.File.{event_count, air, ok_header, ok_pairs, body_at};
 
 use crate::bytes::{part, past, u32_of};
 use crate::types::Bandwidth;
@@ -29,48 +30,48 @@ pub(crate) fn ok_header(file: &[u8]) -> bool
         && event_count(file) <= 1000
 }
 
-// The offset of the i-th pair, from 0. (`length_at` differs in one number: a function of both would be handed an 8 or a 12, and not say which it
-// reads.)
-#[tactic(auto, unfolding(crate::specs::File::offset_at))]
-fn offset_at(file: &[u8], i: u32) -> u32
-    ensures { result ≡ offset_at file.now i }
-{
-    u32_of(past(file, 8 + 8 * (i as usize)))
+// A pair: where an event's body starts, and how long it is.
+#[derive(Clone, Copy)]
+struct Pair {
+    offset: u32,
+    length: u32,
 }
 
-// Its length.
-#[tactic(auto, unfolding(crate::specs::File::length_at))]
-fn length_at(file: &[u8], i: u32) -> u32
-    ensures { result ≡ length_at file.now i }
+// The pair at the start of the bytes.
+fn pair_of(bytes: &[u8]) -> Pair
+    ensures offset { result.offset ≡ le32 bytes.now }
+    ensures length { result.length ≡ le32 (drop 4 bytes.now) }
 {
-    u32_of(past(file, 12 + 8 * (i as usize)))
+    Pair {
+        offset: u32_of(bytes),
+        length: u32_of(past(bytes, 4)),
+    }
 }
 
-// Whether the bodies follow the pairs and each other to the file's end. The loop goes by the pair's number, by which `offset_at` and `length_at`
-// read, and stops at the first pair out of place: a `try_fold` over the pairs' bytes would carry `at` in an Option, and read pairs in a second way.
+// Whether the bodies follow the pairs and each other to the file's end.
+#[tactic(auto, using(crate::proofs::Pairs::chain_past, crate::proofs::Pairs::chain_start, crate::proofs::Pairs::chain_off, crate::proofs::Pairs::chain_on, crate::proofs::Pairs::chain_end, crate::proofs::Pairs::pairs_lent, crate::proofs::Pairs::pairs_count, crate::proofs::Pairs::pair_offset, crate::proofs::Pairs::pair_length))]
 pub(crate) fn ok_pairs(file: &[u8]) -> bool
     ensures { result ≡ ok_pairs file.now }
 {
-    let n = event_count(file);
-    let mut at = 8 + 8 * (n as usize);
-    if file.len() < at {
+    let mut at = 8 + 8 * (event_count(file) as usize);
+    let Some(pairs) = file.get(8..at) else {
         return false;
-    }
-    for i in 0..n {
-        if offset_at(file, i) as usize != at {
+    };
+    for bytes in pairs.as_chunks::<8>().0 {
+        let pair = pair_of(bytes);
+        if pair.offset as usize != at {
             return false;
         }
-        at += length_at(file, i) as usize;
+        at += pair.length as usize;
     }
     at == file.len()
 }
 
 // The body of the i-th event, from 0.
-#[tactic(auto, unfolding(crate::specs::File::body_at))]
+#[tactic(auto, unfolding(crate::specs::File::body_at, crate::specs::File::offset_at), using(crate::proofs::Pairs::length_from))]
 pub fn body_at(file: &[u8], i: u32) -> &[u8]
     ensures { result.now ≡ body_at file.now i }
 {
-    let at = offset_at(file, i) as usize;
-    let len = length_at(file, i) as usize;
-    part(file, at, len)
+    let pair = pair_of(past(file, 8 + 8 * (i as usize)));
+    part(file, pair.offset as usize, pair.length as usize)
 }

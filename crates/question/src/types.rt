@@ -13,7 +13,8 @@ pub enum Kind {
     Seed,
 }
 
-// A first byte that names no kind.
+// A first byte that names no kind. (This and `UnknownAir` are two types, and not one over the number's: each says what its number does not name, and
+// neither is printed.)
 #[derive(Clone, Copy, Debug, PartialEq, Eq)]
 pub struct UnknownKind(pub u8);
 
@@ -36,7 +37,7 @@ impl TryFrom<u8> for Kind {
     }
 }
 
-// An air.
+// An air. (Not called `Air`: that is the ladder's struct of a table's small facts.)
 #[derive(Clone, Copy, Debug, PartialEq, Eq)]
 pub enum Bandwidth {
     Wide,

@@ -11,7 +11,7 @@ use limits::refusal::{Refusal, Verdict};
 fn ok_bodies(file: &[u8]) -> bool
     ensures { result ≡ ok_bodies file.now }
 {
-    Reader::new(file).all(|body| ok_body(body))
+    Reader::new(file).all(ok_body)
 }
 
 // The lowest of the three that applies.

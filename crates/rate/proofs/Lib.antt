@@ -1,4 +1,2 @@
 pub mod Stepping
-mod Passes
 mod Transmitted
-mod Played

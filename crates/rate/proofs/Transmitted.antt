@@ -11,7 +11,11 @@ use Rattle.rules.specs.Echo.{observe_snr}
 use Rattle.rules.specs.Tries.{Decided, decided, decide}
 use Rattle.rules.specs.Transmission.{inside, observe_frames}
 use Rattle.rules.specs.declared.pass.Pass.{Pass}
-use Rattle.rules.specs.bridges.Pass.{begin_pass, pass_all, booked_accounts, decided_pass}
+use Rattle.account.specs.declared.types.Account.{Account}
+use Rattle.rules.specs.declared.accounts.Fades.{Fades}
+use Rattle.rules.specs.bridges.Pass.{Kept, begin_pass, pass_all, booked_accounts, decided_pass}
+use Rattle.rules.specs.bridges.Ageing.{booked_all}
+use Rattle.rules.proofs.Keeping.{books_kept}
 use Rattle.rules.proofs.Booked as booked
 use Rattle.rate.specs.Calls.{RateController, with_state, Frames, accepted, done}
 use Rattle.rate.specs.bridges.Replies.{answer_of, done_reply}
@@ -35,10 +39,13 @@ module _ (k : RateController) (fs : List Frame) (snr : Reading) where
       go (f ∷ l) h = absurd (omega (arith, h))
 
   -- what the pass gathered, the state once its frames are booked, and what was decided
-  pub frames_accepted : (y : Pass) (b s : State) (begun : Bool) → 0 < length fs → b ≡ booked_accounts k.table fs z → y ≡ pass_all k.table z.core (begin_pass z.core) fs → decided s begun ≡ decided_pass k.table k.prices b y
+  -- by factors that were kept
+  pub frames_accepted : (d : Fades) (y : Pass) (b s : State) (begun : Bool) → Kept k.table d → length k.state.accounts ≡ 32 → 0 < length fs
+      → b ≡ record z { accounts = booked_all k.table d fs z.accounts } → y ≡ pass_all k.table z.core (begin_pass z.core) fs → decided s begun ≡ decided_pass k.table k.prices b y
       → answer_of (with_state k s) (done_reply k.state.core.trying s begun) ≡ accepted k (Frames fs snr)
   unfolding accepted
-  frames_accepted y b s begun more eb ey ed =
-      let d : decided s begun ≡ observe_frames k.table k.prices k.state fs snr =
-      ed ∙ rw (eb, ey) (booked.decided k.table k.prices k.state fs snr) ∙ more_frames k.table k.prices k.state fs snr more in
-      ap (λ (x : Decided). done k x.state x.begun) d
+  frames_accepted d y b s begun kept long more eb ey ed =
+      let q : b ≡ booked_accounts k.table fs z = eb ∙ ap (λ (l : List Account). record z { accounts = l }) (books_kept k.table d fs z.accounts long kept) in
+      let e : decided s begun ≡ observe_frames k.table k.prices k.state fs snr =
+      ed ∙ rw (q, ey) (booked.decided k.table k.prices k.state fs snr) ∙ more_frames k.table k.prices k.state fs snr more in
+      ap (λ (x : Decided). done k x.state x.begun) e

@@ -14,7 +14,7 @@ use Rattle.account.specs.declared.types.Account.{Account}
 use Rattle.account.specs.declared.types.Try.{Try}
 use Rattle.account.specs.State.{Trying, no_account, account, choice}
 use Rattle.account.specs.Price.{estimate, lossless, value}
-use Rattle.rules.specs.Echo.{first_place}
+use Rattle.rules.specs.Echo.{first_place, refuses}
 use Rattle.rate.specs.Calls.{RateController, fresh_controller}
 
 -- 6: "rung not in the table (a frame, `value`, `estimate`)"
@@ -37,9 +37,13 @@ lossless_of k r = cond (in_table k.table r) (lossless k.table r) f0
 unfoldable pub threshold_of : RateController → ℕ → Reading
 threshold_of k r = cond (in_table k.table r) (Some (row k.table r).threshold) None
 
+-- "OFDM refused": what `refuses` says of every OFDM rung, of which the floor count is one
+abbrev pub ofdm_refused : RateController → Bool
+ofdm_refused k = refuses k.table k.state k.table.air.floors
+
 -- the usable rungs
 abbrev pub modes_of : RateController → Front
-modes_of k = record { rungs = k.table.front; count = k.table.air.places }
+modes_of k = k.table.front
 
 -- the choice, the rung being tried, and the rung to use: the one being tried, else the choice
 abbrev pub choice_of : RateController → Rung

@@ -1,4 +1,5 @@
-// The sender's rate controller: every call of the source's `RateController`, by value, with its refusals and marks; and the same calls in place, for whoever plays many.
+// The sender's rate controller: every call of the source's `RateController`, by value, with its refusals and marks; and the same calls in place, for
+// whoever plays many.
 #![tactic(auto)]
 
 pub mod calls;

@@ -17,7 +17,7 @@ pub fn fresh(table: Table) -> RateController
 {
     RateController {
         table,
-        prices: Prices::UNSET,
+        prices: Prices::default(),
         state: State::FRESH,
     }
 }

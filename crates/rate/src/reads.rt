@@ -1,14 +1,18 @@
 // The calls that only read a controller.
 ghost use Rattle.std.specs.Prelude.{◌≡◌};
+ghost use Rattle.limits.specs.Refusals.{unless};
+ghost use Rattle.limits.specs.declared.refusal.Refusal.TheVariants.{UnknownRung};
+ghost use Rattle.ladder.specs.Types.{in_table};
 ghost use Rattle.rules.specs.Echo.{refuses};
-ghost use Rattle.rate.specs.Reads.{value_of, estimate_of, account_of, lossless_of, threshold_of, choice_of, probing_of, recommend_of, first_mode, modes_of};
+ghost use Rattle.rate.specs.Reads.{value_of, estimate_of, account_of, lossless_of, threshold_of, choice_of, probing_of, recommend_of, first_mode, modes_of, ofdm_refused};
 
-use crate::types::RateController;
+use crate::moves::within;
+use crate::types::{RateController, terms};
 use account::price;
 use account::types::{Account, Families, Offsets};
 use ladder::types::{Front, Rung};
 use limits::reading::Reading;
-use limits::refusal::Refusal;
+use limits::refusal::{Refusal, Verdict};
 
 impl RateController {
     // The families last set.
@@ -25,17 +29,30 @@ impl RateController {
         steps::echo::refuses(&self.table, &self.state, mode)
     }
 
+    // Whether every OFDM rung is refused: the first one is past the floor rungs, and what is said of it is said of all.
+    pub fn refuses_ofdm(&self) -> bool
+        ensures { result ≡ ofdm_refused self.now }
+    {
+        self.refuses(Rung(self.table.air.floors))
+    }
+
+    // A rung that is not in the table is refused: 6.
+    fn known(&self, mode: Rung) -> Verdict
+        ensures { result ≡ unless (in_table self.now.table mode.0) UnknownRung }
+    {
+        self.table
+            .has(mode)
+            .then_some(())
+            .ok_or(Refusal::UnknownRung)
+    }
+
     // What the rungs are ranked by. Refused: 6.
-    // (This and `estimate` share the test of the rung: one for both would take the price as a closure.)
     #[tactic(auto, unfolding(crate::specs::Reads::value_of))]
     pub fn value(&self, mode: Rung) -> Result<f64, Refusal>
         ensures { result ≡ value_of self.now mode.0 }
     {
-        if self.table.has(mode) {
-            Ok(price::value(&self.table, &self.prices, &self.state, mode))
-        } else {
-            Err(Refusal::UnknownRung)
-        }
+        self.known(mode)?;
+        Ok(terms(&self.table, &self.prices).value(&self.state, mode))
     }
 
     // Data bytes a second of air at the rung delivers, measured and prior together. Refused: 6.
@@ -43,14 +60,12 @@ impl RateController {
     pub fn estimate(&self, mode: Rung) -> Result<f64, Refusal>
         ensures { result ≡ estimate_of self.now mode.0 }
     {
-        if self.table.has(mode) {
-            Ok(price::estimate(&self.table, &self.state, mode))
-        } else {
-            Err(Refusal::UnknownRung)
-        }
+        self.known(mode)?;
+        Ok(price::estimate(&self.table, &self.state, mode))
     }
 
     // Data bytes a second of the rung's frames carries, nothing lost; 0.0 outside the table.
+    // (An `if`, here and in `account`: `then(..).unwrap_or(..)` would be a closure more, and make an Option to take it apart.)
     #[tactic(auto, unfolding(crate::specs::Reads::lossless_of))]
     pub fn lossless(&self, mode: Rung) -> f64
         ensures { result ≡ lossless_of self.now mode.0 }
@@ -85,10 +100,7 @@ impl RateController {
     pub fn modes(&self) -> Front
         ensures { result ≡ modes_of self.now }
     {
-        Front {
-            rungs: self.table.front,
-            count: self.table.air.places,
-        }
+        self.table.front
     }
 
     // The rung to use: the one being tried, else the choice.
@@ -139,11 +151,9 @@ impl RateController {
     pub fn first_mode(&self, snr_db: f64) -> Result<Rung, Refusal>
         ensures { result ≡ first_mode self.now snr_db }
     {
-        if limits::values::ok_db(snr_db) {
-            let place = steps::echo::first_place(&self.table, &self.prices, &self.state, snr_db);
-            Ok(self.table.rung_at(place))
-        } else {
-            Err(Refusal::OutsideLimits)
-        }
+        within(limits::values::ok_db(snr_db))?;
+        let terms = terms(&self.table, &self.prices);
+        let place = steps::echo::first_place(terms, &self.state, snr_db);
+        Ok(self.table.rung_at(place))
     }
 }

@@ -1,18 +1,18 @@
 -- One pass over the frames gathers what the definitions' passes give each: the fold of the step is the parts of the folds. The sums and counts start where a pass
 -- stands, so that each part goes by induction over the frames. Assumes nothing.
 use mathlib.Core.Path.{◌≡◌, refl, sym, ap, ◌∙◌}
-use mathlib.Core.Bool.{Bool, true, false, not, ◌&&◌, ◌||◌, cond, or-true, or-false, or_assoc, and-true, and_assoc}
+use mathlib.Core.Bool.{Bool, true, false, not, ◌&&◌, ◌||◌, cond, or-false, or_assoc, and-true, and_assoc}
 use mathlib.Core.List.{List, [], ◌∷◌, foldl}
-use Prim.Native.Nat.{ℕ, zero, suc, ◌+◌, ◌*◌, ◌≤◌, ◌<◌, min}
+use Prim.Native.Nat.{ℕ, suc, ◌+◌, ◌≤◌, ◌<◌, min}
 use native.Mathlib.Nat.{zero-add}
 use native.Mathlib.Omega.{arith}
 use native.Mathlib.Decide.{dec_lt}
 use lib.Dec.{ltb, eqb}
 use borrow.Author.Tests.{lt-ltb, le-ltb, le-leb, ne_eqb}
-use Rattle.float.specs.Numbers.{f0}
 use Rattle.float.specs.Sum.{total}
 use Rattle.limits.specs.Readings.{Reading}
-use Rattle.std.specs.Prelude.{None, Some}
+use Rattle.std.specs.Prelude.{Option, None, Some, unwrap_or}
+use Rattle.std.specs.Option.{option_map_or}
 use Rattle.ladder.specs.declared.types.Rung.{Rung}
 use Rattle.ladder.specs.declared.types.Table.{Table}
 use Rattle.ladder.specs.Lists.{every}
@@ -21,15 +21,16 @@ use Rattle.account.specs.declared.types.Core.{Core}
 use Rattle.account.specs.declared.types.Offsets.{Offsets}
 use Rattle.account.specs.declared.types.Prices.{Prices}
 use Rattle.account.specs.declared.types.State.{State}
-use Rattle.account.specs.State.{Trying, choice, try_of, wait_of, with_time, with_wait}
+use Rattle.account.specs.State.{Trying, choice, try_of}
 use Rattle.rules.specs.Lists.{some_of, how_many}
 use Rattle.rules.specs.Echo.{observe_snr}
 use Rattle.rules.specs.Booking.{Frame, at, book, call_air, offsets_at, offsets_after, ofdm, judge_family, airs, sent, clean_mark, booked}
-use Rattle.rules.specs.Tries.{better, judge_try, to_judge, judge_sent, judge_above, own_frames, end_try, counted, decide}
+use Rattle.rules.specs.Tries.{judge_above, own_frames, end_try, counted, decide}
 use Rattle.rules.specs.bridges.Sets.{in_set}
 use Rattle.rules.specs.bridges.Pass.{Pass, Marks, add_rung, offsets_by, mark_family, mark_choice, family_mark, choice_mark, count_own, begin_pass, here_of, pass_step, pass_all, booked_accounts, finish_pass, judged_pass, decided_pass}
 use Rattle.rules.specs.Transmission.{judged, inside}
 use Rattle.rules.proofs.Set.{adds, none_in, judge_frames}
+use Rattle.rules.proofs.Trying.{judged_keeps_try}
 
 -- ---- the parts
 offsets_none : (t : Table) (snr : Reading) (o : Offsets) → offsets_at t snr [] o ≡ o
@@ -55,47 +56,76 @@ clean here f = not (at here f) || (f.decoded && not f.combined)
 abbrev heard_of : Table → Frame → Bool
 heard_of t f = ofdm t f && f.decoded
 
+-- of the frames of a family or at the choice, if there was one: by whether one more is there, and what it and its like say
+abbrev heard_from : Bool → Bool → Option Bool → Option Bool
+heard_from p q h = cond p (Some (unwrap_or h false || q)) h
+
+abbrev alone_from : Bool → Bool → Option Bool → Option Bool
+alone_from p q h = cond p (Some (unwrap_or h true && q)) h
+
 abbrev marks_from : Table → ℕ → List Frame → Marks → Marks
-marks_from t here fs m = record {
-  ofdm = m.ofdm || some_of (ofdm t) fs;
-  heard = m.heard || some_of (heard_of t) fs;
-  chosen = m.chosen || sent fs here;
-  alone = m.alone && every (clean here) fs;
-}
+marks_from t here fs m =
+    record { heard = heard_from (some_of (ofdm t) fs) (some_of (heard_of t) fs) m.heard; alone = alone_from (sent fs here) (every (clean here) fs) m.alone }
 
--- a frame's own marks by its two tests, whether it is floor and whether it went at the choice
-abbrev by_family : Bool → Frame → Marks → Marks
-by_family a f m = cond a m (record { ofdm = true; heard = m.heard || f.decoded; chosen = m.chosen; alone = m.alone })
+-- none is heard where none was sent, and each is decoded alone where none went
+none_heard : (t : Table) (fs : List Frame) → some_of (ofdm t) fs ≡ false → some_of (heard_of t) fs ≡ false
+none_heard t [] e = refl
+none_heard t (f ∷ fs) e = go (is_floor t f.rung.0) (some_of (ofdm t) fs) (none_heard t fs) e
+  where
+    go : (a p : Bool) → (p ≡ false → some_of (heard_of t) fs ≡ false) → (not a || p) ≡ false → (not a && f.decoded || some_of (heard_of t) fs) ≡ false
+    go true p h e = h e
+    go false p h e = let z : ◌≡◌ {A = ℕ} 1 0 = ap (λ (b : Bool). cond b 1 0) e in absurd (omega arith)
 
-abbrev by_choice : Bool → Frame → Marks → Marks
-by_choice b f m =
-    cond b (record { ofdm = m.ofdm; heard = m.heard; chosen = true; alone = m.alone && (f.decoded && not f.combined) }) m
+all_clean : (here : ℕ) (fs : List Frame) → sent fs here ≡ false → every (clean here) fs ≡ true
+all_clean here [] e = refl
+all_clean here (f ∷ fs) e = go (at here f) (sent fs here) (all_clean here fs) e
+  where
+    go : (b p : Bool) → (p ≡ false → every (clean here) fs ≡ true) → (b || p) ≡ false → ((not b || (f.decoded && not f.combined)) && every (clean here) fs) ≡ true
+    go true p h e = let z : ◌≡◌ {A = ℕ} 1 0 = ap (λ (b : Bool). cond b 1 0) e in absurd (omega arith)
+    go false p h e = h e
 
--- and those of the frames after it
+-- a frame's own marks, and those of the frames after it
+heard_step : (t : Table) (f : Frame) (fs : List Frame) (h : Option Bool)
+    → heard_from (some_of (ofdm t) fs) (some_of (heard_of t) fs) (cond (is_floor t f.rung.0) h (Some (unwrap_or h false || f.decoded)))
+    ≡ heard_from (some_of (ofdm t) (f ∷ fs)) (some_of (heard_of t) (f ∷ fs)) h
+heard_step t f fs h = go (is_floor t f.rung.0) (some_of (ofdm t) fs) (some_of (heard_of t) fs) (none_heard t fs)
+  where
+    go : (a p q : Bool) → (p ≡ false → q ≡ false)
+        → heard_from p q (cond a h (Some (unwrap_or h false || f.decoded))) ≡ heard_from (not a || p) (not a && f.decoded || q) h
+    go true p q n = refl
+    go false true q n = rw (or_assoc (unwrap_or h false) f.decoded q) refl
+    go false false q n = rw (n refl, or-false f.decoded) refl
+
+alone_step : (here : ℕ) (f : Frame) (fs : List Frame) (h : Option Bool)
+    → alone_from (sent fs here) (every (clean here) fs) (cond (at here f) (Some (unwrap_or h true && (f.decoded && not f.combined))) h)
+    ≡ alone_from (sent (f ∷ fs) here) (every (clean here) (f ∷ fs)) h
+alone_step here f fs h = go (at here f) (sent fs here) (every (clean here) fs) (all_clean here fs)
+  where
+    go : (b p q : Bool) → (p ≡ false → q ≡ true)
+        → alone_from p q (cond b (Some (unwrap_or h true && (f.decoded && not f.combined))) h) ≡ alone_from (b || p) ((not b || (f.decoded && not f.combined)) && q) h
+    go true true q n = rw (and_assoc (unwrap_or h true) (f.decoded && not f.combined) q) refl
+    go true false q n = rw (n refl, and-true (f.decoded && not f.combined)) refl
+    go false p q n = refl
+
+abbrev marks : Option Bool → Option Bool → Marks
+marks h a = record { heard = h; alone = a }
+
+both : {h h' a a' : Option Bool} → h ≡ h' → a ≡ a' → marks h a ≡ marks h' a'
+both p q = rw (p, q) refl
+
 marks_step : (t : Table) (here : ℕ) (f : Frame) (fs : List Frame) (m : Marks)
     → marks_from t here fs (mark_choice here f (mark_family t f m)) ≡ marks_from t here (f ∷ fs) m
-marks_step t here f fs m =
-    go (is_floor t f.rung.0) (at here f) (some_of (ofdm t) fs) (some_of (heard_of t) fs) (sent fs here) (every (clean here) fs)
+marks_step t here f fs m = go (is_floor t f.rung.0) (at here f) (heard_step t f fs m.heard) (alone_step here f fs m.alone)
   where
-    go : (a b p q r u : Bool)
-        → ◌≡◌ {A = Marks}
-        (record {
-          ofdm = (by_choice b f (by_family a f m)).ofdm || p;
-          heard = (by_choice b f (by_family a f m)).heard || q;
-          chosen = (by_choice b f (by_family a f m)).chosen || r;
-          alone = (by_choice b f (by_family a f m)).alone && u;
-        })
-        (record {
-          ofdm = m.ofdm || (not a || p);
-          heard = m.heard || (not a && f.decoded || q);
-          chosen = m.chosen || (b || r);
-          alone = m.alone && ((not b || (f.decoded && not f.combined)) && u);
-        })
-    go true true p q r u = rw (or-true m.chosen, and_assoc m.alone (f.decoded && not f.combined) u) refl
-    go true false p q r u = refl
-    go false true p q r u =
-        rw (or-true m.ofdm, or-true m.chosen, or_assoc m.heard f.decoded q, and_assoc m.alone (f.decoded && not f.combined) u) refl
-    go false false p q r u = rw (or-true m.ofdm, or_assoc m.heard f.decoded q) refl
+    go : (a b : Bool)
+        → heard_from (some_of (ofdm t) fs) (some_of (heard_of t) fs) (cond a m.heard (Some (unwrap_or m.heard false || f.decoded))) ≡ (marks_from t here (f ∷ fs) m).heard
+        → alone_from (sent fs here) (every (clean here) fs) (cond b (Some (unwrap_or m.alone true && (f.decoded && not f.combined))) m.alone) ≡ (marks_from t here (f ∷ fs) m).alone
+        → marks_from t here fs (cond b (record (cond a m (record m { heard = Some (unwrap_or m.heard false || f.decoded) })) { alone = Some (unwrap_or (cond a m (record m { heard = Some (unwrap_or m.heard false || f.decoded) })).alone true && (f.decoded && not f.combined)) }) (cond a m (record m { heard = Some (unwrap_or m.heard false || f.decoded) })))
+        ≡ marks_from t here (f ∷ fs) m
+    go true true h k = both h k
+    go true false h k = both h k
+    go false true h k = both h k
+    go false false h k = both h k
 
 -- ---- the whole
 -- what the folds make of a pass
@@ -111,8 +141,7 @@ gathered t c y fs = record {
 gathered_none : (t : Table) (c : Core) (y : Pass) → y ≡ gathered t c y []
 unfolding total
 gathered_none t c y =
-    let m = y.marks in
-    rw (offsets_none t c.snr y.offsets, or-false m.ofdm, or-false m.heard, or-false m.chosen, and-true m.alone) refl
+    rw (offsets_none t c.snr y.offsets) refl
 
 gathered_step : (t : Table) (c : Core) (y : Pass) (f : Frame) (fs : List Frame) → gathered t c (pass_step t c y f) fs ≡ gathered t c y (f ∷ fs)
 unfolding total pass_step
@@ -140,16 +169,24 @@ module _ (t : Table) (s : State) (fs : List Frame) where
 
   pub family_judged : family_mark gather.marks s.core.failed ≡ judge_family t fs s.core.failed
   unfolding judge_family
-  family_judged = ap (λ (y : Pass). family_mark y.marks s.core.failed) (gathers t s.core (begin_pass s.core) fs)
+  family_judged = ap (λ (y : Pass). family_mark y.marks s.core.failed) (gathers t s.core (begin_pass s.core) fs) ∙ go (some_of (ofdm t) fs) (some_of (heard_of t) fs)
+    where
+      go : (p q : Bool) → option_map_or not (heard_from p q None) s.core.failed ≡ cond p (not q) s.core.failed
+      go true q = refl
+      go false q = refl
 
   pub clean_marked : choice_mark gather.marks (rung (here_of t s.core)) ≡ clean_mark (choice t s) fs
   unfolding clean_mark
-  clean_marked = ap (λ (y : Pass). choice_mark y.marks (rung (here_of t s.core))) (gathers t s.core (begin_pass s.core) fs)
+  clean_marked = ap (λ (y : Pass). choice_mark y.marks (rung (here_of t s.core))) (gathers t s.core (begin_pass s.core) fs) ∙ go (sent fs (choice t s)) (every (clean (choice t s)) fs)
+    where
+      go : (p q : Bool) → cond (unwrap_or (alone_from p q None) false) (Some (rung (here_of t s.core))) None ≡ cond (p && q) (Some (rung (choice t s))) None
+      go true q = refl
+      go false q = refl
 
   -- the state after it is the one that the definitions book
   pub pass_books : finish_pass t (booked_accounts t fs s) gather ≡ booked t s fs
-  unfolding finish_pass booked offsets_after judge_family clean_mark
-  pass_books = ap (finish_pass t (booked_accounts t fs s)) (gathers t s.core (begin_pass s.core) fs)
+  unfolding finish_pass booked
+  pass_books = rw (offsets_moved, air_summed, family_judged, clean_marked) refl
 
 -- ---- the set of rungs sent
 add_rung_lem : (set q r : ℕ) → r < 32 → in_set (add_rung set q) r ≡ (eqb q r || in_set set r)
@@ -213,26 +250,7 @@ counted_to_3 t p n s (Some y) =
     ]
 
 -- ---- after the pass: judging the set of rungs sent, and counting the try, is judging and counting by the frames
--- judging a rung leaves the running try
-judge_keeps : (t : Table) (p : Prices) (fs : List Frame) (s : State) (r : ℕ) → (judge_sent t p fs s r).core.trying ≡ s.core.trying
-unfolding judge_sent judge_try
-judge_keeps t p fs s r = go (to_judge t s fs r) (better t p s r)
-  where
-    go : (a b : Bool) → (cond a (cond b (with_wait s r 6) (with_time (with_wait s r (min 48 (2 * wait_of s r))) r f0)) s).core.trying ≡ s.core.trying
-    go true true = refl
-    go true false = refl
-    go false b = refl
-
-judging_keeps : (t : Table) (p : Prices) (fs : List Frame) (n r : ℕ) (s : State) → (judge_above n r t p fs s).core.trying ≡ s.core.trying
-unfolding judge_above
-judging_keeps t p fs zero r s = refl
-judging_keeps t p fs (suc n) r s = judging_keeps t p fs n (suc r) (judge_sent t p fs s r) ∙ judge_keeps t p fs s r
-
 module _ (t : Table) (p : Prices) (s : State) (fs : List Frame) where
-  try_kept : (judged t p s fs).core.trying ≡ s.core.trying
-  unfolding booked
-  try_kept = judging_keeps t p fs 32 0 (booked t s fs)
-
   abbrev y : Pass
   y = pass_all t s.core (begin_pass s.core) fs
 
@@ -242,7 +260,7 @@ module _ (t : Table) (p : Prices) (s : State) (fs : List Frame) where
   try_counted : counted t p y.own (judged t p s fs) (judged t p s fs).core.trying ≡ counted t p (own_frames fs (judged t p s fs).core.trying) (judged t p s fs) (judged t p s fs).core.trying
   try_counted =
       let b = judged t p s fs in
-      let q : y.own ≡ min 3 (own_frames fs b.core.trying) = own_counted t s fs ∙ ap (λ (x : Trying). min 3 (own_frames fs x)) (sym try_kept) in
+      let q : y.own ≡ min 3 (own_frames fs b.core.trying) = own_counted t s fs ∙ ap (λ (x : Trying). min 3 (own_frames fs x)) (sym (judged_keeps_try t p s fs)) in
       ap (λ (n : ℕ). counted t p n b b.core.trying) q ∙ counted_to_3 t p (own_frames fs b.core.trying) b b.core.trying
 
 -- what `decide` is given, by the pass alone: y is what is gathered of the frames, the SNR being smoothed already, and b the state with the sent rungs judged

@@ -16,7 +16,10 @@ use Rattle.float.specs.Numbers.{◌⊕◌, f0}
 use Rattle.limits.specs.Readings.{Reading}
 use Rattle.ladder.specs.declared.types.Table.{Table}
 use Rattle.ladder.specs.Types.{rung_at, places_of}
-use Rattle.ladder.proofs.Cases.{pick, pick_by, yes_of, of_no, or_here, or_left, and_rest}
+use lib.Ieee.Bits.{is_false}
+use Rattle.std.proofs.lemmas.Bool.{cond_both, or_parts}
+use Rattle.std.proofs.lemmas.Float.{T_from_true}
+use Rattle.ladder.proofs.Cases.{pick, or_here, and_rest}
 use Rattle.ladder.proofs.TableSound.{TableSound}
 use Rattle.account.specs.State.{Trying, time_of, wait_of, choice, with_place}
 use Rattle.std.specs.Prelude.{None, Some}
@@ -52,9 +55,9 @@ unfolding judge_sent
 sent_apart t p fs s r u h =
     let b = ltb (choice t s) r in
     let d = not (tries s.core.trying r) in
-    pick_by (Apart u s) (to_judge t s fs r)
+    cond_both (to_judge t s fs r) _ _ (Apart u s)
     (λ e. judge_apart t p s r u (λ (q : u ≡ r).
-    subst T (of_no (sent fs r) (subst (λ (m : ℕ). T (not (sent fs m))) q h)) (and_l (sent fs r) b (and_l (sent fs r && b) d (yes_of e)))))
+    subst T (is_false (sent fs r) (subst (λ (m : ℕ). T (not (sent fs m))) q h)) (and_l (sent fs r) b (and_l (sent fs r && b) d (T_from_true _ e)))))
     (λ e. apart_self u s)
 
 above_apart : (n r : ℕ) (t : Table) (p : Prices) (fs : List Frame) (s : State) (u : ℕ) → T (not (sent fs u)) → Apart u s (judge_above n r t p fs s)
@@ -162,7 +165,7 @@ module _ (t : Table) (p : Prices) (i : ℕ) (q : State) (here : q.core.place.0 �
       let there : T one = subst (λ (n : ℕ). T (usable t q (suc n))) (sym e) h in
       let won : T two = rw (value_place t p q j (rung_at t j)) (subst (λ (n : ℕ). T (lt (value t p q (rung_at t n)) (lossless_price t p (rung_at t (suc n))))) (sym e) beaten) in
       subst (λ (n : ℕ). due t p q (rung_at t (suc n)) ≡ false) e
-      (or_left (due t p m u) (clean_climb t p m u) (and_rest (one && two) (due t p m u || clean_climb t p m u) (and_i one two there won) b))
+      ((or_parts (due t p m u) (clean_climb t p m u) (and_rest (one && two) (due t p m u || clean_climb t p m u) (and_i one two there won) b)).0)
 
   pub decide_waits : Stays t i (decide t p q).state → Waits t p i q (decide t p q).state
   unfolding decide

@@ -14,7 +14,9 @@ use Rattle.limits.specs.Readings.{Reading}
 use Rattle.std.specs.Prelude.{None, Some}
 use Rattle.ladder.specs.declared.types.Table.{Table}
 use Rattle.ladder.specs.Types.{rung_at, rungs_of, places_of}
-use Rattle.ladder.proofs.Cases.{pick, pick_by, yes_of}
+use Rattle.std.proofs.lemmas.Bool.{cond_both}
+use Rattle.std.proofs.lemmas.Float.{T_from_true}
+use Rattle.ladder.proofs.Cases.{pick}
 use Rattle.ladder.proofs.Entries.{All, all_get, all_set}
 use Rattle.ladder.proofs.TableSound.{TableSound}
 use Rattle.account.specs.State.{Trying, time_of, wait_of, choice, with_time, with_wait, with_trying, with_place, with_echo}
@@ -110,9 +112,9 @@ module _ (t : Table) (p : Prices) (ts : TableSound t) (ps : TariffSound p.tariff
   full_ticks s h =
       let up = suc s.core.place.0 in
       let r = rung_at t up in
-      pick_by Ticks (usable t s up)
+      cond_both (usable t s up) _ _ Ticks
       (λ e.
-      let there : r < rungs_of t = ts.on_table up (ltb→lt up (places_of t) (and_l (ltb up (places_of t)) (not (out t s r)) (yes_of e))) in
+      let there : r < rungs_of t = ts.on_table up (ltb→lt up (places_of t) (and_l (ltb up (places_of t)) (not (out t s r)) (T_from_true _ e))) in
       set_time s r (wait_seconds t p.tariff s r) h (seconds_natural t p.tariff s r ts ps there (wait_is s h r (omega arith))))
       (λ e. h)
 

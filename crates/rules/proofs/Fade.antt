@@ -1,12 +1,16 @@
 -- The factors of ageing. Two frame times that `==` finds the same above 0 have one product with 12, and two such airs one quotient by it, so a factor that is carried
 -- from rung to rung or kept from frame to frame is the one that the definition asks for; and the factor of a frame's own rung is a constant. Assumes nothing.
-use mathlib.Core.Path.{◌≡◌, refl, sym, ap, ◌∙◌}
+use mathlib.Core.Path.{◌≡◌, refl, sym, ap, subst, ◌∙◌}
 use mathlib.Core.Bool.{Bool, true, false, ◌&&◌, cond}
-use Prim.Native.Nat.{ℕ, ◌*◌, ◌<◌}
-use native.Mathlib.Nat.{mul_comm, mul-mul-mul_comm, mul-pos}
+use Prim.Native.Nat.{ℕ, ◌+◌, ◌*◌, ◌<◌}
+use native.Mathlib.Nat.{zero-add, mul_comm, mul-mul-mul_comm, mul-pos}
 use native.Mathlib.Omega.{arith}
+use native.Mathlib.Decide.{ℕ_discrete}
 use lib.Dec.{T, eqb, eqb→eq, ltb→lt}
 use lib.IntN.{ℤ, pos}
+use lib.ListN.{length, get_or, set, drop, get_or-append}
+use lib.Seq.{get_or-set_same, get_or-set_other, ext_get_or}
+use mathlib.Core.List.{List}
 use lib.Ieee.{Float, nan, inf, fin, binary64, up, down, unlike, of_bits, round, sub, mul, div, le, lt, eq}
 use lib.Ieee.Fits.{and_l, and_r, up_pos, down_pos}
 use lib.Ieee.Scale.{round_same}
@@ -15,7 +19,11 @@ use Rattle.float.specs.Numbers.{f64, ◌⊗◌, ◌⊘◌, f0, f1}
 use Rattle.half.specs.Power.{descent, series, half}
 use Rattle.half.specs.Powers.{powers}
 use Rattle.rules.specs.Booking.{f12}
-use Rattle.rules.specs.bridges.Pass.{Fade, factor, fade_at}
+use Rattle.ladder.specs.declared.types.Table.{Table}
+use Rattle.ladder.specs.Lists.{tabulate}
+use Rattle.ladder.specs.Types.{row, rungs_of}
+use Rattle.ladder.proofs.Tabulating.{tabulate_at, length_tabulate}
+use Rattle.rules.specs.bridges.Pass.{Fade, Fades, factor, fade_at, filled, turned, Fading, Kept}
 
 -- "its own by half(1/12)": 0.9438743126816935
 pub own_fade_lem : half (f1 ⊘ f12) ≡ f64 0x3fee_3437_e710_1344
@@ -132,6 +140,57 @@ module _ (air time : Float) (last : Fade) (good : Carried air last) where
       go true = good
       go false = λ h. refl
 
+-- one factor more is the rung's own: the one computed, or the last one, carried on
+pub filled_more : (t : Table) (air : Float) (by : List Float) (i : ℕ) (last d : Fade) → i < length by → Carried air last → d ≡ fade_at air (row t i).time last
+    → ((r : ℕ) → r < i → get_or by r f1 ≡ factor air (row t r).time) → (r : ℕ) → r < i + 1 → get_or (set by i d.by) r f1 ≡ factor air (row t r).time
+filled_more t air by i last d long good e before r h =
+    elim (ℕ_discrete r i) [
+      | yes q ↦ rw q (get_or-set_same by i d.by f1 long ∙ fade_by air (row t i).time last good d e)
+      | no n ↦ get_or-set_other by i r d.by f1 n ∙ before r (omega arith)
+    ]
+
 -- two airs that `==` finds the same above 0 have one factor at each frame time
 pub same_air : (air last time : Float) → T (lt f0 last) → T (eq air last) → factor last time ≡ factor air time
 same_air air last time h k = ap half (sym (same_quotient air last (f12 ⊗ time) h k))
+
+-- so the factors kept of the same air are those for a frame's
+pub kept_fading : (t : Table) (air : Float) (d : Fades) → Kept t d → true ≡ (lt f0 d.air && eq air d.air) → Fading t air d
+kept_fading t air d k e r h =
+    let both : T (lt f0 d.air && eq air d.air) = subst T e tt in
+    let above = and_l (lt f0 d.air) (eq air d.air) both in
+    k above r h ∙ same_air air d.air _ above (and_r (lt f0 d.air) (eq air d.air) both)
+
+-- all of them right, they are those that `filled` has, as many as there are rungs in use
+pub filled_done : (t : Table) (air : Float) (by : List Float) → length by ≡ rungs_of t → ((r : ℕ) → r < rungs_of t → get_or by r f1 ≡ factor air (row t r).time)
+    → by ≡ tabulate (rungs_of t) 0 (λ r. factor air (row t r).time)
+filled_done t air by long right =
+    let n = rungs_of t in
+    let F : ℕ → Float = λ r. factor air (row t r).time in
+    ext_get_or f1 by (tabulate n 0 F) (long ∙ sym (length_tabulate n 0 F))
+    (λ r k. let h : r < n = omega (arith, long) in right r h ∙ ap F (sym (zero-add r)) ∙ sym (tabulate_at n 0 F r f1 h))
+
+-- the factors filled are those for the air
+filled_fading : (t : Table) (air : Float) (d : Fades) → Fading t air (filled t air d)
+unfolding filled
+filled_fading t air d r h =
+    let n = rungs_of t in
+    let F : ℕ → Float = λ q. factor air (row t q).time in
+    get_or-append (tabulate n 0 F) (drop n d.by) f1 r (omega (arith, length_tabulate n 0 F)) ∙ tabulate_at n 0 F r f1 h ∙ ap F (zero-add r)
+
+-- from factors that are kept, those for a frame's air are right, and are kept
+module _ (t : Table) (air : Float) (d : Fades) (k : Kept t d) where
+  pub turned_fading : Fading t air (turned t air d)
+  unfolding turned
+  turned_fading = go (lt f0 d.air && eq air d.air) refl
+    where
+      go : (b : Bool) → b ≡ (lt f0 d.air && eq air d.air) → Fading t air (cond b d (filled t air d))
+      go true q = kept_fading t air d k q
+      go false q = filled_fading t air d
+
+  pub turned_kept : Kept t (turned t air d)
+  unfolding turned filled
+  turned_kept = go (lt f0 d.air && eq air d.air)
+    where
+      go : (b : Bool) → Kept t (cond b d (filled t air d))
+      go true = k
+      go false = λ a. filled_fading t air d

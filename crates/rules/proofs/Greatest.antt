@@ -1,5 +1,5 @@
--- A walk over places by `greatest`: its start, one turn, its end, that what it finds has the value of its place, and that places past 31, none of which is
--- allowed, need no walk. Assumes nothing.
+-- A walk over places by `greatest`: its start, one turn, its end, that what it finds has the value of its place, and that places from which on none is
+-- allowed need no walk. Assumes nothing.
 use mathlib.Core.Path.{◌≡◌, refl, sym, ap, ◌∙◌}
 use mathlib.Core.Bool.{Bool, true, false, ◌&&◌, cond}
 use Prim.Native.Nat.{ℕ, zero, suc, ◌+◌, ◌-◌, ◌<◌, ◌≤◌, min}
@@ -8,6 +8,7 @@ use native.Mathlib.Numerals.{add-one}
 use lib.Dec.{ltb}
 use lib.Ieee.{Float}
 use borrow.Author.Tests.{ltb-true, ltb-false}
+use Rattle.ladder.proofs.Ranges.{left, none_left}
 use Rattle.ladder.specs.declared.types.Table.{Table}
 use Rattle.ladder.specs.Types.{place, rung_at}
 use Rattle.account.specs.declared.types.Prices.{Prices}
@@ -29,12 +30,11 @@ module _ (A : ℕ → Bool) (W : ℕ → Float) where
   unfolding greatest
   turn n i b z h q =
       let m = n - (i + 1) in
-      let e : n - i ≡ suc m = omega arith in
-      ap (λ (k : ℕ). greatest m k A W z) (add-one i) ∙ ap (greatest m (suc i) A W) q ∙ sym (ap (λ (k : ℕ). greatest k i A W b) e)
+      ap (λ (k : ℕ). greatest m k A W z) (add-one i) ∙ ap (greatest m (suc i) A W) q ∙ sym (ap (λ (k : ℕ). greatest k i A W b) (left h))
 
   pub done : (n i : ℕ) (b : Best) → n ≤ i → b ≡ greatest (n - i) i A W b
   unfolding greatest
-  done n i b h = let e : n - i ≡ 0 = omega arith in sym (ap (λ (k : ℕ). greatest k i A W b) e)
+  done n i b h = sym (ap (λ (k : ℕ). greatest k i A W b) (none_left h))
 
   -- what is found has the value of its place
   abbrev pub Valued : Best → Type 0
@@ -46,25 +46,25 @@ module _ (A : ℕ → Bool) (W : ℕ → Float) where
   keeps zero i b h = h
   keeps (suc n) i b h = keeps n (suc i) (improved A W i b) (pick Valued (A i && beats (W i) b) refl h)
 
-  module _ (far : (j : ℕ) → 32 ≤ j → A j ≡ false) where
-    idle : (n i : ℕ) (b : Best) → 32 ≤ i → greatest n i A W b ≡ b
+  module _ (m : ℕ) (far : (j : ℕ) → m ≤ j → A j ≡ false) where
+    idle : (n i : ℕ) (b : Best) → m ≤ i → greatest n i A W b ≡ b
     unfolding greatest
     idle zero i b h = refl
     idle (suc n) i b h =
         ap (greatest n (suc i) A W) (ap (λ (u : Bool). cond (u && beats (W i) b) (found (place i) (W i)) b) (far i h)) ∙ idle n (suc i) b (omega arith)
 
-    pub capped : (n i : ℕ) (b : Best) → greatest (min (32 - i) n) i A W b ≡ greatest n i A W b
+    pub capped : (n i : ℕ) (b : Best) → greatest (min (m - i) n) i A W b ≡ greatest n i A W b
     unfolding greatest
-    capped zero i b = let q : min (32 - i) 0 ≡ 0 = omega arith in ap (λ (k : ℕ). greatest k i A W b) q
-    capped (suc n) i b = go (ltb i 32) refl (capped n (suc i) (improved A W i b))
+    capped zero i b = let q : min (m - i) 0 ≡ 0 = omega arith in ap (λ (k : ℕ). greatest k i A W b) q
+    capped (suc n) i b = go (ltb i m) refl (capped n (suc i) (improved A W i b))
       where
-        go : (u : Bool) → ltb i 32 ≡ u → greatest (min (32 - suc i) n) (suc i) A W (improved A W i b) ≡ greatest n (suc i) A W (improved A W i b)
-            → greatest (min (32 - i) (suc n)) i A W b ≡ greatest (suc n) i A W b
-        go true h e = let q : min (32 - i) (suc n) ≡ suc (min (32 - suc i) n) = omega (arith, ltb-true i 32 h) in ap (λ (k : ℕ). greatest k i A W b) q ∙ e
+        go : (u : Bool) → ltb i m ≡ u → greatest (min (m - suc i) n) (suc i) A W (improved A W i b) ≡ greatest n (suc i) A W (improved A W i b)
+            → greatest (min (m - i) (suc n)) i A W b ≡ greatest (suc n) i A W b
+        go true h e = let q : min (m - i) (suc n) ≡ suc (min (m - suc i) n) = omega (arith, ltb-true i m h) in ap (λ (k : ℕ). greatest k i A W b) q ∙ e
         go false h e =
-            let q : min (32 - i) (suc n) ≡ 0 = omega (arith, ltb-false i 32 h) in
-            ap (λ (k : ℕ). greatest k i A W b) q ∙ sym (idle (suc n) i b (ltb-false i 32 h))
+            let q : min (m - i) (suc n) ≡ 0 = omega (arith, ltb-false i m h) in
+            ap (λ (k : ℕ). greatest k i A W b) q ∙ sym (idle (suc n) i b (ltb-false i m h))
 
-    -- a walk over the n places from 0 on that ends at place 32 at the latest
-    pub start_capped : (n : ℕ) (b : Best) → greatest (min 32 n - 0) 0 A W b ≡ greatest n 0 A W b
-    start_capped n b = let q : min 32 n - 0 ≡ min (32 - 0) n = omega arith in ap (λ (k : ℕ). greatest k 0 A W b) q ∙ capped n 0 b
+    -- a walk over the n places from 0 on that ends where none is allowed any more
+    pub start_capped : (n : ℕ) (b : Best) → greatest (min m n - 0) 0 A W b ≡ greatest n 0 A W b
+    start_capped n b = let q : min m n - 0 ≡ min (m - 0) n = omega arith in ap (λ (k : ℕ). greatest k 0 A W b) q ∙ capped n 0 b

@@ -1,6 +1,5 @@
 pub mod Usable
 pub mod Walks
-pub mod Ranges
 pub mod Greatest
 pub mod Set
 pub mod LowestFound
@@ -9,5 +8,5 @@ pub mod Clock
 pub mod Calm
 pub mod Fade
 pub mod Ageing
+pub mod Keeping
 pub mod Booked
-pub mod FirstBad

@@ -9,10 +9,13 @@ use native.Mathlib.Omega.{arith}
 use lib.Dec.{T, T_not, not_T}
 use lib.Ieee.{Float, lt}
 use lib.Ieee.Fits.{and_i}
-use Rattle.float.proofs.Order.{number, le_lt, not_lt, lt_le, lt→LT}
+use Rattle.std.proofs.lemmas.Float.{lt_irrefl, lt_trans}
+use Rattle.float.proofs.Order.{number, le_lt, not_lt}
 use Rattle.ladder.specs.declared.types.Place.{Place}
 use Rattle.ladder.specs.Types.{place}
-use Rattle.ladder.proofs.Cases.{pick, pick_by, yes_of}
+use Rattle.std.proofs.lemmas.Bool.{cond_both}
+use Rattle.std.proofs.lemmas.Float.{T_from_true}
+use Rattle.ladder.proofs.Cases.{pick}
 use Rattle.std.specs.Prelude.{None, Some}
 use Rattle.rules.specs.Lowest.{Best, found, Lowest, BestOf, beats, improved, greatest}
 
@@ -28,7 +31,7 @@ pub finds : (n i : ℕ) (allowed : ℕ → Bool) (worth : ℕ → Float) (j : �
 unfolding greatest
 finds zero i allowed worth j h k a = absurd (omega arith)
 finds (suc n) i allowed worth j h k a =
-    pick_by (λ (b : Best). greatest n (suc i) allowed worth b ≢ None) (allowed i && true)
+    cond_both (allowed i && true) _ _ (λ (b : Best). greatest n (suc i) allowed worth b ≢ None)
     (λ e. found_stays n (suc i) allowed worth (place i) (worth i))
     (λ e. finds n (suc i) allowed worth j (later e (eq-or-lt_of_le h)) (omega arith) a)
   where
@@ -38,14 +41,10 @@ finds (suc n) i allowed worth j h k a =
 
 -- ---- which one is found
 never_less : (x : Float) → T (not (lt x x))
-never_less x = not_T (lt x x) (λ (h : T (lt x x)). same (lt→LT x x h))
-  where
-    same : {a b : ℕ} → (a < a) ⊎ ((a ≡ a) × (b < b)) → ⊥
-    same (inl u) = omega arith
-    same (inr u) = omega arith
+never_less x = not_T (lt x x) (lt_irrefl x)
 
 never_both : (x y : Float) → T (lt x y) → T (not (lt y x))
-never_both x y h = not_T (lt y x) (λ (k : T (lt y x)). T_not (lt x x) (never_less x) (le_lt x y x (lt_le x y h) k))
+never_both x y h = not_T (lt y x) (λ (k : T (lt y x)). lt_irrefl x (lt_trans x y x h k))
 
 -- what holds of each number below m, and of m, holds of each below suc m
 with_last : (P : ℕ → Type 0) (m : ℕ) → ((j : ℕ) → j < m → P j) → P m → (j : ℕ) → j < suc m → P j
@@ -63,7 +62,7 @@ module _ (allowed : ℕ → Bool) (worth : ℕ → Float) (numbers : (j : ℕ) �
       go : (a : Bool) → allowed m ≡ a → BestOf allowed worth (suc m) (cond (a && true) (found (place m) (worth m)) None)
       go true e = record {
         below = omega arith;
-        is_allowed = yes_of e;
+        is_allowed = T_from_true _ e;
         value = refl;
         none_greater =
             with_last (λ (j : ℕ). T (allowed j) → T (not (lt (worth m) (worth j)))) m (λ (j : ℕ) (g : j < m) (a : T (allowed j)). absurd (T_not (allowed j) (h j g) a)) (λ (a : T (allowed m)). never_less (worth m));
@@ -89,11 +88,11 @@ module _ (allowed : ℕ → Bool) (worth : ℕ → Float) (numbers : (j : ℕ) �
       go : (a : Bool) → allowed m ≡ a → (b : Bool) → lt f.value (worth m) ≡ b → BestOf allowed worth (suc m) (cond (a && b) (found (place m) (worth m)) (Some f))
       go true e true k = record {
         below = omega arith;
-        is_allowed = yes_of e;
+        is_allowed = T_from_true _ e;
         value = refl;
         none_greater =
-            with_last (λ (j : ℕ). T (allowed j) → T (not (lt (worth m) (worth j)))) m (λ (j : ℕ) (g : j < m) (a : T (allowed j)). never_both (worth j) (worth m) (less (yes_of k) j g a)) (λ (a : T (allowed m)). never_less (worth m));
-        lower_less = less (yes_of k);
+            with_last (λ (j : ℕ). T (allowed j) → T (not (lt (worth m) (worth j)))) m (λ (j : ℕ) (g : j < m) (a : T (allowed j)). never_both (worth j) (worth m) (less (T_from_true _ k) j g a)) (λ (a : T (allowed m)). never_less (worth m));
+        lower_less = less (T_from_true _ k);
       }
       go true e false k = kept (λ (a : T (allowed m)). subst (λ (z : Bool). T (not z)) (sym k) tt)
       go false e b k = kept (λ (a : T (allowed m)). absurd (subst T e a))

@@ -120,7 +120,7 @@ some (suc s) h = zero-lt-suc s
 pub shift : (t : ℕ) → t < 32 → 1 * 2 ^ t % 2 ^ 32 ≡ 2 ^ t
 shift t h = shl_exact 1 t 32 (lit< tt) (omega arith) ∙ one-mul (2 ^ t)
 
-pub empty : (n s : ℕ) → s < 2 ^ n → ones s ≤ 0 → s ≡ 0
+empty : (n s : ℕ) → s < 2 ^ n → ones s ≤ 0 → s ≡ 0
 empty n zero h e = refl
 empty n (suc s) h e = absurd (omega (arith, (lowest n (suc s) (zero-lt-suc s) h).fewer))
 
@@ -184,9 +184,9 @@ module _ (t : Table) (p : Prices) where
   unfolding judge_set
   judge_next set s q h = next (judge_one t p) 32 set s q h
 
-  pub judge_none : (s : State) → judge_set 0 t p s ≡ s
+  pub judge_done : (set : ℕ) (s : State) → set < 2 ^ 32 → ones set ≤ 0 → judge_set set t p s ≡ s
   unfolding judge_set
-  judge_none s = none (judge_one t p) 32 s
+  judge_done set s h e = rw (empty 32 set h e) (none (judge_one t p) 32 s)
 
   -- ---- the frames' side
   module _ (fs : List Frame) where

@@ -15,7 +15,8 @@ use Rattle.limits.specs.Readings.{Reading}
 use Rattle.std.specs.Prelude.{None, Some}
 use Rattle.ladder.specs.declared.types.Table.{Table}
 use Rattle.ladder.specs.Types.{rung, places_of}
-use Rattle.ladder.proofs.Cases.{pick, pick_by, or_right}
+use Rattle.std.proofs.lemmas.Bool.{cond_both, or_parts}
+use Rattle.ladder.proofs.Cases.{pick}
 use Rattle.account.specs.State.{Trying, try_of, runs, choice, with_trying, with_place, with_echo}
 use Rattle.account.specs.declared.types.Prices.{Prices}
 use Rattle.account.specs.declared.types.State.{State}
@@ -96,9 +97,9 @@ Counted r calls y = (y ≡ None) ⊎ Goes r calls y
 count : (t : Table) (p : Prices) (n : ℕ) (s : State) (r : Rung) (calls frames : ℕ) → Counted r (suc calls) (counted t p n s (try_of r calls frames)).core.trying
 unfolding counted
 count t p n s r calls frames =
-    pick_by (λ (z : State). Counted r (suc calls) z.core.trying) (leb 3 (frames + n) || leb 6 (suc calls))
+    cond_both (leb 3 (frames + n) || leb 6 (suc calls)) _ _ (λ (z : State). Counted r (suc calls) z.core.trying)
     (λ e. inl (end_keeps_try t p (with_trying s None) r.0 (frames + n)))
-    (λ e. inr (frames + n, refl, leb-false 6 (suc calls) (or_right (leb 3 (frames + n)) (leb 6 (suc calls)) e)))
+    (λ e. inr (frames + n, refl, leb-false 6 (suc calls) (or_parts (leb 3 (frames + n)) (leb 6 (suc calls)) e).1))
 
 module _ (t : Table) (p : Prices) (s : State) (fs : List Frame) (snr : Reading) where
   inside_counts : (r : Rung) (calls frames : ℕ) → s.core.trying ≡ try_of r calls frames → Counted r (suc calls) (inside t p s fs snr).core.trying

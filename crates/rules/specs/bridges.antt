@@ -1,4 +1,3 @@
 pub mod Sets
 pub mod Pass
-pub mod Check
 pub mod Ageing

@@ -1,11 +1,11 @@
 // What a frame does to the accounts: it ages those of the other rungs by its air, and its own by one frame, which then gains.
-ghost use Rattle.std.specs.Prelude.{◌≡◌, ◌&&◌, ◌≤◌};
+ghost use Rattle.std.specs.Prelude.{◌≡◌, ◌&&◌, ◌≤◌, length};
 ghost use Rattle.std.specs.Float.Ieee.{lt, eq};
 ghost use Rattle.float.specs.Numbers.{f0};
 ghost use Rattle.ladder.specs.Types.{rungs_of};
 ghost use Rattle.rules.specs.Booking.{aged, gained, book_frame};
-ghost use Rattle.rules.specs.bridges.Pass.{factor, fade_at, Fading, Kept, no_fades};
-ghost use Rattle.rules.specs.bridges.Ageing.{aged_by};
+ghost use Rattle.rules.specs.bridges.Pass.{factor, fade_at, no_fades, filled};
+ghost use Rattle.rules.specs.bridges.Ageing.{aged_by, booked_by};
 
 use crate::types::Frame;
 use account::types::Account;
@@ -47,8 +47,8 @@ fn gain_frame(f: Frame, a: Account) -> Account
 
 // ---- factors
 // The factor that rungs of one frame time age by. A time of 0.0: there is none yet.
-// (An Option here, and in `Fades` below, would spare no test: equal floats are the same value only where they are no zeros, so the last one would be tested against 0.0 all
-// the same, and a 0.0 says that there is none.)
+// (An Option here, and in `Fades` below, would spare no test: equal floats are the same value only where they are no zeros, so the last one would be
+// tested against 0.0 all the same, and a 0.0 says that there is none.)
 #[derive(Clone, Copy)]
 pub struct Fade {
     pub time: f64,
@@ -57,7 +57,7 @@ pub struct Fade {
 
 // Whether there is a last value, and this is the same.
 // (The test against 0.0 is needed with an Option too: see `Fade`.)
-fn is_same(x: f64, last: f64) -> bool
+pub(crate) fn is_same(x: f64, last: f64) -> bool
     ensures { result ≡ (lt f0 last && eq x last) }
 {
     last > 0.0 && x == last
@@ -85,6 +85,8 @@ pub struct Fades {
 
 impl Fades {
     // Before the first frame.
+    // (Nothing reads these ones. Zeros are made by a call of `memset`, and 900 SNR readings, each by a player of its own as in question's `answer_event`,
+    // take 1.4 times as long.)
     pub fn none() -> Fades
         ensures { result ≡ no_fades }
     {
@@ -95,55 +97,45 @@ impl Fades {
     }
 
     // The factors of all rungs in use, for a frame's air. One is computed anew only where the frame time differs from the rung's before.
-    // (By the rung's number, as `age` below goes by the entry's: of entries written through `iter_mut` Rattle's proofs know nothing, and both promise each entry.)
-    fn fill(&mut self, t: &Table, air: f64)
-        ensures fading { Fading t.now air self.new }
-        ensures of_air { self.new.air ≡ air }
+    #[tactic(auto, unfolding(crate::specs::bridges::Pass::filled), using(crate::proofs::Fade::fade_carried, crate::proofs::Fade::filled_more, crate::proofs::Fade::filled_done))]
+    pub(crate) fn fill(&mut self, t: &Table, air: f64)
+        ensures { self.new ≡ filled t.now air self.old }
     {
         let mut fade = Fade { time: 0.0, by: 1.0 };
-        for i in 0..t.rungs() {
-            fade = fade_for(air, t.row(Rung(i)).time, fade);
-            self.by[i as usize] = fade.by;
+        let n = t.rungs() as usize;
+        for (i, by) in self.by[..n].iter_mut().enumerate() {
+            fade = fade_for(air, t.row(Rung(i as u32)).time, fade);
+            *by = fade.by;
         }
         self.air = air;
-    }
-
-    // The factors for a frame's air: those kept where it is the air that they are for.
-    pub(crate) fn turn(&mut self, t: &Table, air: f64)
-        requires { Kept t.now self.old }
-        ensures fading { Fading t.now air self.new }
-        ensures kept { Kept t.now self.new }
-    {
-        if !is_same(air, self.air) {
-            self.fill(t, air);
-        }
     }
 }
 
 // ---- all accounts
-// The first n accounts, each aged by its factor.
-// (By number: see `fill`.)
-fn age(accounts: &mut [Account; 32], by: &[f64; 32], n: usize)
-    requires { n ≤ 32 }
-    ensures { accounts.new ≡ aged_by n 0 by.now accounts.old }
+// The first accounts, each aged by its factor.
+// (The factor is taken by the entry's number: of what is written through a zip of `iter_mut` Rattle's proofs know nothing.)
+#[tactic(auto, using(crate::proofs::Ageing::aged_turn, crate::proofs::Ageing::aged_done))]
+fn age(accounts: &mut [Account], by: &[f64; 32])
+    requires { length accounts.old ≤ 32 }
+    ensures { accounts.new ≡ aged_by (length accounts.old) 0 by.now accounts.old }
 {
-    for i in 0..n {
-        accounts[i] = age_account(by[i], accounts[i]);
+    for (i, a) in accounts.iter_mut().enumerate() {
+        *a = age_account(by[i], *a);
     }
 }
 
-// All accounts after a frame, by the factors of its air: all are aged, and the frame's own rung as it was before ages by its own factor and gains.
+// All accounts after a frame, by the factors given: all are aged, and the frame's own rung as it was before ages by its own factor and gains.
+#[tactic(auto, using(crate::proofs::Ageing::books_own, crate::proofs::Ageing::books_others))]
 pub(crate) fn book_accounts(t: &Table, accounts: &mut [Account; 32], fades: &Fades, f: Frame)
-    requires { Fading t.now f.air fades.now }
-    ensures { accounts.new ≡ book_frame (rungs_of t.now) 0 t.now f accounts.old }
+    ensures { accounts.new ≡ booked_by t.now fades.now.by f accounts.old }
 {
-    let r = f.rung.0 as usize;
     let n = t.rungs() as usize;
-    if r >= n {
-        age(accounts, &fades.by, n);
+    if !t.has(f.rung) {
+        age(&mut accounts[..n], &fades.by);
         return;
     }
+    let r = f.rung.0 as usize;
     let own = accounts[r];
-    age(accounts, &fades.by, n);
+    age(&mut accounts[..n], &fades.by);
     accounts[r] = gain_frame(f, age_account(OWN_FADE, own));
 }

@@ -4,6 +4,7 @@ ghost use Rattle.rules.specs.Echo.{smooth, smooth_snr, smooth_echo, over};
 
 use limits::reading::Reading;
 
+// What was smoothed before and a new value, by their weights; the first value as it is.
 fn smooth(old: f64, new: f64, y: Reading, x: f64) -> f64
     ensures { Some result ≡ smooth old new y x }
 {
@@ -14,10 +15,7 @@ fn smooth(old: f64, new: f64, y: Reading, x: f64) -> f64
 pub fn smooth_snr(y: Reading, snr: Reading) -> Reading
     ensures { result ≡ smooth_snr y snr }
 {
-    match snr {
-        None => y,
-        Some(x) => Some(smooth(0.7, 0.3, y, x)),
-    }
+    snr.map_or(y, |x| Some(smooth(0.7, 0.3, y, x)))
 }
 
 // The smoothed echo y after a share.
@@ -31,8 +29,5 @@ pub fn smooth_echo(y: Reading, x: f64) -> Reading
 pub fn over_limit(limit: Reading, echo: Reading) -> bool
     ensures { result ≡ over limit echo }
 {
-    match (limit, echo) {
-        (Some(l), Some(e)) => e > l,
-        _ => false,
-    }
+    limit.zip(echo).is_some_and(|(l, e)| e > l)
 }

@@ -1,5 +1,5 @@
-// The rules of a controller: the definitions of all its steps are in specs/, document 01's sections "Echo and silence" and "A transmission". Here is what they come to
-// on single values, which the steps share, and what one pass over a transmission's frames gathers.
+// The rules of a controller: the definitions of all its steps are in specs/, document 01's sections "Echo and silence" and "A transmission". Here is what
+// they come to on single values, which the steps share, and what one pass over a transmission's frames gathers.
 #![tactic(auto)]
 
 pub mod accounts;

@@ -15,9 +15,10 @@ pub struct Found {
 pub fn beat(best: Option<Found>, place: Place, value: f64) -> Option<Found>
     ensures { result ≡ cond (beats value best) (found place value) best }
 {
-    match best {
-        Some(so_far) if !(value > so_far.value) => best,
-        _ => Some(Found { place, value }),
+    if best.is_none_or(|so_far| value > so_far.value) {
+        Some(Found { place, value })
+    } else {
+        best
     }
 }
 

@@ -1,32 +1,19 @@
 // What a transmission says of the OFDM family, and of the choice.
 ghost use Rattle.std.specs.Prelude.{◌≡◌};
-ghost use Rattle.rules.specs.bridges.Pass.{no_marks, mark_family, mark_choice, family_mark, choice_mark};
+ghost use Rattle.rules.specs.bridges.Pass.{mark_family, mark_choice, family_mark, choice_mark};
 
 use crate::types::Frame;
 use ladder::types::{Rung, Table};
 
-// Whether an OFDM frame was sent, whether one was decoded, whether a frame went at the choice, and whether each of those was decoded alone.
-#[derive(Clone, Copy, PartialEq, Eq, Debug)]
+// Whether one of the OFDM frames sent was decoded, and whether each of the frames that went at the choice was decoded alone: None, and so by default,
+// where there was no such frame.
+#[derive(Clone, Copy, Default, PartialEq, Eq, Debug)]
 pub struct Marks {
-    pub ofdm: bool,
-    pub heard: bool,
-    pub chosen: bool,
-    pub alone: bool,
+    pub heard: Option<bool>,
+    pub alone: Option<bool>,
 }
 
 impl Marks {
-    // Before the first frame.
-    pub fn none() -> Marks
-        ensures { result ≡ no_marks }
-    {
-        Marks {
-            ofdm: false,
-            heard: false,
-            chosen: false,
-            alone: true,
-        }
-    }
-
     // The marks after a frame, as far as its family goes.
     pub fn mark_family(self, t: &Table, f: Frame) -> Marks
         ensures { result ≡ mark_family t.now f self }
@@ -35,8 +22,7 @@ impl Marks {
             return self;
         }
         Marks {
-            ofdm: true,
-            heard: self.heard | f.decoded,
+            heard: Some(self.heard.unwrap_or(false) | f.decoded),
             ..self
         }
     }
@@ -49,8 +35,7 @@ impl Marks {
             return self;
         }
         Marks {
-            chosen: true,
-            alone: self.alone & (f.decoded & !f.combined),
+            alone: Some(self.alone.unwrap_or(true) & (f.decoded & !f.combined)),
             ..self
         }
     }
@@ -59,13 +44,13 @@ impl Marks {
     pub fn judge_family(self, failed: bool) -> bool
         ensures { result ≡ family_mark self failed }
     {
-        if self.ofdm { !self.heard } else { failed }
+        self.heard.map_or(failed, |heard| !heard)
     }
 
     // The clean mark after the pass.
     pub fn clean_mark(self, here: Rung) -> Option<Rung>
         ensures { result ≡ choice_mark self here }
     {
-        (self.chosen && self.alone).then_some(here)
+        self.alone.unwrap_or(false).then_some(here)
     }
 }

@@ -28,28 +28,26 @@ fn hit(decoded: bool) -> f64
     f64::from(decoded)
 }
 
-// An offset after a frame of its family: moved by the gain times the surprise.
-fn move_offset(t: &Table, snr: f64, f: Frame, off: f64) -> f64
-    ensures { result ≡ moved t.now snr f off }
-{
-    let c = account::price::chance(t, f.rung, off, snr);
-    clamp_offset(off + t.air.gain * (c - hit(f.decoded)))
-}
-
-// Both offsets after a frame, at a known SNR.
+// Both offsets after a frame, at a known SNR: that of its family is moved by the gain times the surprise.
+// (Each family's field is written by its name: a `&mut` to the one or the other field, chosen by an `if`, says no longer of which it is, and the proof is
+// three answers by hand.)
 fn move_family(t: &Table, snr: f64, f: Frame, o: Offsets) -> Offsets
     ensures { result ≡ offset_step t.now snr f o }
 {
+    let moved = |off| {
+        let c = account::price::chance(t, f.rung, off, snr);
+        clamp_offset(off + t.air.gain * (c - hit(f.decoded)))
+    };
     if f.combined {
         o
     } else if t.is_floor(f.rung) {
         Offsets {
-            floor: move_offset(t, snr, f, o.floor),
+            floor: moved(o.floor),
             ..o
         }
     } else {
         Offsets {
-            ofdm: move_offset(t, snr, f, o.ofdm),
+            ofdm: moved(o.ofdm),
             ..o
         }
     }
@@ -59,8 +57,5 @@ fn move_family(t: &Table, snr: f64, f: Frame, o: Offsets) -> Offsets
 pub fn move_offsets(t: &Table, snr: Reading, f: Frame, o: Offsets) -> Offsets
     ensures { result ≡ offsets_by t.now snr f o }
 {
-    match snr {
-        None => o,
-        Some(x) => move_family(t, x, f, o),
-    }
+    snr.map_or(o, |x| move_family(t, x, f, o))
 }

@@ -2,9 +2,10 @@
 ghost use Rattle.std.specs.Prelude.{◌≡◌};
 ghost use Rattle.ladder.specs.Types.{rungs_of};
 ghost use Rattle.rules.specs.Booking.{book_frame};
-ghost use Rattle.rules.specs.bridges.Pass.{add_rung, begin_pass, pass_step, pass_all, booked_accounts, finish_core, Kept};
+ghost use Rattle.rules.specs.bridges.Pass.{add_rung, begin_pass, pass_step, pass_all, finish_core, turned, turned_all};
+ghost use Rattle.rules.specs.bridges.Ageing.{booked_by, booked_all};
 
-use crate::accounts::{Fades, book_accounts};
+use crate::accounts::{Fades, book_accounts, is_same};
 use crate::marks::Marks;
 use crate::offsets::move_offsets;
 use crate::tries::count_own;
@@ -13,6 +14,7 @@ use account::types::{Core, Offsets, State};
 use ladder::types::{Rung, Table};
 
 // The set of rungs sent, offsets, the call's air, the try's own frames, up to 3, and the marks.
+// (The set is a number, as document 01 has it: "32-bit set; trailing zeros give the next rung, ones give how many are left".)
 #[derive(Clone, Copy, PartialEq, Debug)]
 pub struct Pass {
     pub sent: u32,
@@ -40,7 +42,7 @@ impl Pass {
             offsets: c.offsets,
             air: 0.0,
             own: 0,
-            marks: Marks::none(),
+            marks: Marks::default(),
         }
     }
 
@@ -69,26 +71,28 @@ impl Pass {
 }
 
 // ---- the frames, in order
-// (`Kept` stands in contracts, here and in rate's `moves`, since it is of a table and factors that are lent each by itself: as the invariant of a struct it needs an owner of
-// both, which rate's `Player` is.)
+// (By factors that are `Kept` the accounts are booked as the rules book them: `books_kept` of proofs/Keeping.antt. That is the invariant of rate's
+// `Player`, which owns table and factors.)
 // One frame: it is booked, and what else the pass gathers.
+#[tactic(auto, unfolding(crate::specs::bridges::Pass::turned))]
 pub(crate) fn book(t: &Table, s: &mut State, fades: &mut Fades, y: &mut Pass, f: Frame)
-    requires { Kept t.now fades.old }
-    ensures accounts { s.new ≡ record s.old { accounts = book_frame (rungs_of t.now) 0 t.now f s.old.accounts } }
+    ensures accounts { s.new ≡ record s.old { accounts = booked_by t.now (turned t.now f.air fades.old).by f s.old.accounts } }
     ensures pass { y.new ≡ pass_step t.now s.old.core y.old f }
-    ensures kept { Kept t.now fades.new }
+    ensures fades_after { fades.new ≡ turned t.now f.air fades.old }
 {
-    fades.turn(t, f.air);
+    if !is_same(f.air, fades.air) {
+        fades.fill(t, f.air);
+    }
     book_accounts(t, &mut s.accounts, fades, f);
     y.gather(t, &s.core, f);
 }
 
 // All frames of a lent list.
+#[tactic(auto, unfolding(crate::specs::bridges::Ageing::booked_all))]
 pub fn book_frames(t: &Table, s: &mut State, fades: &mut Fades, frames: &[Frame]) -> Pass
-    requires { Kept t.now fades.old }
-    ensures accounts { s.new ≡ booked_accounts t.now frames.now s.old }
+    ensures accounts { s.new ≡ record s.old { accounts = booked_all t.now fades.old frames.now s.old.accounts } }
     ensures pass { result ≡ pass_all t.now s.old.core (begin_pass s.old.core) frames.now }
-    ensures kept { Kept t.now fades.new }
+    ensures fades_after { fades.new ≡ turned_all t.now fades.old frames.now }
 {
     let mut y = Pass::begin(&s.core);
     for f in frames {

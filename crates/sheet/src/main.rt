@@ -7,6 +7,7 @@ use std::io::Read;
 // One byte more than a question file may have: a longer input is seen to be too long, and is not cut to one that is not.
 const ROOM: u64 = 65537;
 
+// The bytes of the sheet's buffer (document 01: "Its output buffer is 32,768 bytes"), of which the library says how many it filled.
 const SHEET: usize = 32768;
 
 // The system's words for an error, without the number that std writes behind them. (The program mark has the same two

@@ -1,2 +1,3 @@
-mod Passed
 mod Decided
+mod Front
+mod Passed

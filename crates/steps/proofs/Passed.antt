@@ -1,23 +1,20 @@
 -- The times since each front rung's try, with the call's air: one place more, and the end. Assumes nothing.
-use Rattle.std.specs.Prelude.{◌≡◌, ℕ, suc, ◌+◌, ◌-◌, ◌<◌, ◌≤◌, List, get_or, set}
+use Rattle.std.specs.Prelude.{◌≡◌, ℕ, ◌+◌, ◌-◌, ◌<◌, ◌≤◌, List, get_or, set}
 use mathlib.Core.Path.{refl}
 use native.Mathlib.Numerals.{add-one}
-use native.Mathlib.Omega.{arith}
 use lib.Ieee.{Float}
 use Rattle.float.specs.Numbers.{◌⊕◌, f0}
 use Rattle.ladder.specs.declared.types.Table.{Table}
 use Rattle.ladder.specs.Types.{rung_at}
 use Rattle.rules.specs.Booking.{passed}
+use Rattle.ladder.proofs.Ranges.{left, none_left}
 
 module _ (t : Table) (a : Float) (n i : ℕ) (l : List Float) where
   -- one place: the stored list, by whichever branch it came
   pub turn : i < n → (r : ℕ) (z : List Float) → r ≡ rung_at t i → z ≡ set l r (get_or l r f0 ⊕ a) → passed (n - (i + 1)) (i + 1) t a z ≡ passed (n - i) i t a l
   unfolding passed
-  turn h r z e f =
-      let m = n - (i + 1) in
-      let q : n - i ≡ suc m = omega arith in
-      rw (f, e, q, add-one i) refl
+  turn h r z e f = rw (f, e, left h, add-one i) refl
 
   pub done : n ≤ i → l ≡ passed (n - i) i t a l
   unfolding passed
-  done h = let q : n - i ≡ 0 = omega arith in rw q refl
+  done h = rw (none_left h) refl

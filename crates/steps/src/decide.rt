@@ -1,15 +1,15 @@
 // `decide` of document 01's section "A transmission", in place.
-ghost use Rattle.std.specs.Prelude.{◌≡◌, ◌<◌, Some, None, if◌then◌else◌};
-ghost use Rattle.ladder.specs.Types.{rung, rung_at, places_of};
+ghost use Rattle.std.specs.Prelude.{◌≡◌, ◌&&◌, ◌<◌, eqb, Some, None, if◌then◌else◌};
+ghost use Rattle.std.specs.Bool.{beq};
+ghost use Rattle.ladder.specs.Types.{rung, rung_at, places_of, is_floor};
 ghost use Rattle.account.specs.Price.{value};
-ghost use Rattle.account.specs.State.{choice};
-ghost use Rattle.rules.specs.Tries.{candidate, choose, due, clean_climb, above, begins, decided, decide_try, decide};
+ghost use Rattle.account.specs.State.{choice, wait_of};
+ghost use Rattle.rules.specs.Tries.{candidate, choose, due, is_on, above, begins, decided, decide_try, decide};
 
 use crate::echo::is_out;
 use crate::judge::usable_above;
-use account::price::{lossless_price, value, wait_seconds};
 use account::state::PROBE_EVERY;
-use account::types::{Prices, State, Try};
+use account::types::{State, Terms, Try};
 use ladder::types::{Place, Rung, Table};
 use rules::lowest::Found;
 
@@ -23,65 +23,61 @@ fn is_candidate(t: &Table, s: &State, i: Place, r: Rung) -> bool
 }
 
 // The lowest of greatest value.
-// (The number is the place itself, which is tested and found. This walk and `best_among` of echo.rt differ in what they test: one for both would take the test as a closure, and
-// its contract what the closure promises.)
-fn choose_place(t: &Table, p: &Prices, s: &State) -> Option<Found>
-    ensures { result ≡ choose t.now p.now s.now }
+// (`best_among` of echo.rt walks so by another test and to another end. One walk for both would take the test as a closure, and promise, for every rule
+// that the closure may answer by, what is found by that rule: more than the few lines that stand twice.)
+#[tactic(auto, unfolding(rules::specs::Tries::choose), using(rules::proofs::Greatest::start, rules::proofs::Greatest::turn, rules::proofs::Greatest::done, crate::proofs::Front::rung_here))]
+fn choose_place(k: Terms, s: &State) -> Option<Found>
+    ensures { result ≡ choose k.entry.table.now k.entry.prices.now s.now }
 {
     let mut best = None;
-    for i in 0..t.places() {
-        let r = t.rung_at(Place(i));
-        if is_candidate(t, s, Place(i), r) {
-            best = rules::lowest::beat(best, Place(i), value(t, p, s, r));
+    for (i, r) in k.table.front().iter().enumerate() {
+        let place = Place(i as u32);
+        if is_candidate(k.table, s, place, *r) {
+            best = rules::lowest::beat(best, place, k.value(s, *r));
         }
     }
     best
 }
 
 // ---- whether a try begins; v is the choice's value, read once
-// (The clause on v stands in three contracts: as the invariant of a struct it would need an owner of table, prices and state, which are lent each by itself.)
 // Whether a rung has waited long enough.
-fn is_due(t: &Table, p: &Prices, s: &State, r: Rung) -> bool
-    ensures { result ≡ due t.now p.now s.now r.0 }
+fn is_due(k: Terms, s: &State, r: Rung) -> bool
+    ensures { result ≡ due k.entry.table.now k.entry.prices.now s.now r.0 }
 {
-    s.time(r) >= wait_seconds(t, p, s, r) - rules::tries::WAIT_TOLERANCE_S
+    s.time(r) >= k.wait_seconds(s, r) - rules::tries::WAIT_TOLERANCE_S
 }
 
-// Whether the rung above is tried without its wait.
-#[tactic(auto, unfolding(rules::specs::Tries::clean_climb))]
-fn is_clean_climb(t: &Table, p: &Prices, s: &State, up: Rung, v: f64) -> bool
-    requires { v ≡ value t.now p.now s.now (choice t.now s.now) }
-    ensures { result ≡ clean_climb t.now p.now s.now up.0 }
+// Whether the rung above needs no wait, if its value is greater: the mark is on the choice, both rungs are of one family, and its wait is the shortest.
+fn is_clean(t: &Table, s: &State, up: Rung) -> bool
+    ensures { result ≡ (is_on s.now.core.clean (choice t.now s.now) && beq (is_floor t.now up.0) (is_floor t.now (choice t.now s.now)) && eqb (wait_of s.now up.0) 6) }
 {
     let here = s.choice(t);
     s.core.clean == Some(here)
         && rules::tries::same_family(t, up, here)
         && s.wait(up) == PROBE_EVERY
-        && value(t, p, s, up) > v
 }
 
 // The rung above, if it is tried now.
-fn rung_to_try(t: &Table, p: &Prices, s: &State, v: f64) -> Option<Rung>
-    requires { v ≡ value t.now p.now s.now (choice t.now s.now) }
-    ensures { result ≡ (if begins t.now p.now s.now then Some (rung (above t.now s.now)) else None) }
+#[tactic(auto, unfolding(rules::specs::Tries::clean_climb))]
+fn rung_to_try(k: Terms, s: &State, v: f64) -> Option<Rung>
+    requires { v ≡ value k.table.now k.prices.now s.now (choice k.table.now s.now) }
+    ensures { result ≡ (if begins k.entry.table.now k.entry.prices.now s.now then Some (rung (above k.entry.table.now s.now)) else None) }
 {
-    let up = usable_above(t, s)?;
-    if lossless_price(t, p, up) > v && (is_due(t, p, s, up) || is_clean_climb(t, p, s, up, v)) {
-        Some(up)
-    } else {
-        None
-    }
+    let up = usable_above(k.table, s)?;
+    let is_tried = k.lossless_price(up) > v
+        && (is_due(k, s, up) || is_clean(k.table, s, up) && k.value(s, up) > v);
+    is_tried.then_some(up)
 }
 
 // ---- what it leaves
 // The try: one that runs goes on if its rung is exactly above, and where none runs one of the rung above begins, or none. Answers whether one was begun.
-fn decide_try(t: &Table, p: &Prices, s: &mut State, v: f64) -> bool
-    requires { v ≡ value t.now p.now s.old (choice t.now s.old) }
-    ensures { decided s.new result ≡ decide_try t.now p.now s.old s.old.core.trying }
+fn decide_try(k: Terms, s: &mut State, v: f64) -> bool
+    requires { v ≡ value k.table.now k.prices.now s.old (choice k.table.now s.old) }
+    ensures { decided s.new result ≡ decide_try k.entry.table.now k.entry.prices.now s.old s.old.core.trying }
 {
     match s.core.trying {
         None => {
-            let Some(rung) = rung_to_try(t, p, s, v) else {
+            let Some(rung) = rung_to_try(k, s, v) else {
                 return false;
             };
             s.set_time(rung, 0.0);
@@ -93,7 +89,7 @@ fn decide_try(t: &Table, p: &Prices, s: &mut State, v: f64) -> bool
             true
         }
         Some(y) => {
-            if usable_above(t, s) != Some(y.rung) {
+            if usable_above(k.table, s) != Some(y.rung) {
                 s.core.trying = None;
             }
             false
@@ -102,10 +98,11 @@ fn decide_try(t: &Table, p: &Prices, s: &mut State, v: f64) -> bool
 }
 
 // Chooses a place, and begins, keeps or ends a try of the rung above it. Answers whether one was begun.
-pub(crate) fn decide(t: &Table, p: &Prices, s: &mut State) -> bool
-    ensures { decided s.new result ≡ decide t.now p.now s.old }
+#[tactic(auto, unfolding(rules::specs::Tries::decide))]
+pub(crate) fn decide(k: Terms, s: &mut State) -> bool
+    ensures { decided s.new result ≡ decide k.entry.table.now k.entry.prices.now s.old }
 {
-    match choose_place(t, p, s) {
+    match choose_place(k, s) {
         None => {
             s.core.place = Place(0);
             s.core.trying = None;
@@ -113,7 +110,7 @@ pub(crate) fn decide(t: &Table, p: &Prices, s: &mut State) -> bool
         }
         Some(found) => {
             s.core.place = found.place;
-            decide_try(t, p, s, found.value)
+            decide_try(k, s, found.value)
         }
     }
 }

@@ -2,12 +2,11 @@
 ghost use Rattle.std.specs.Prelude.{◌≡◌, ◌&&◌, not, None};
 ghost use Rattle.ladder.specs.Lists.{some_from};
 ghost use Rattle.ladder.specs.Types.{rung_at, places_of};
-ghost use Rattle.account.specs.Price.{value};
 ghost use Rattle.rules.specs.Echo.{out, usable, end_if_out, echoed, highest, observe_echo, silent, first_place, seed, observe_snr, ofdm_at, all_out, refuses};
 ghost use Rattle.rules.specs.Lowest.{improved, greatest};
-ghost use Rattle.steps.specs.bridges.First.{first_known};
+ghost use Rattle.steps.specs.bridges.Worth.{worth_at};
 
-use account::types::{Prices, State};
+use account::types::{State, Terms};
 use ladder::types::{Place, Rung, Table};
 use limits::reading::Reading;
 use rules::lowest::{Found, best_place};
@@ -29,25 +28,17 @@ pub(crate) fn is_usable(t: &Table, s: &State, i: Place) -> bool
 }
 
 // ---- the lowest of greatest value
-// One place more, by value, if it is usable.
-fn improve(t: &Table, p: &Prices, s: &State, i: Place, best: Option<Found>) -> Option<Found>
-    ensures { result ≡ improved (usable t.now s.now) (λ j. value t.now p.now s.now (rung_at t.now j)) i.0 best }
+// The best by value at an SNR of the usable ones among the first n places.
+#[tactic(auto, using(crate::proofs::Front::start_usable, crate::proofs::Front::met_under, crate::proofs::Front::rung_under, crate::proofs::Front::usable_here, rules::proofs::Greatest::turn, rules::proofs::Greatest::done))]
+fn best_among(k: Terms, s: &State, snr: Reading, n: u32) -> Option<Found>
+    ensures { result ≡ greatest n 0 (usable k.entry.table.now s.now) (worth_at k.entry.table.now k.entry.prices.now s.now snr) None }
 {
-    if is_usable(t, s, i) {
-        rules::lowest::beat(best, i, account::price::value(t, p, s, t.rung_at(i)))
-    } else {
-        best
-    }
-}
-
-// The best of the usable ones among the first n places. No place past 31 is usable, so the walk up ends there at the latest.
-// (The number is the place itself: see `choose_place` of decide.rt.)
-fn best_among(t: &Table, p: &Prices, s: &State, n: u32) -> Option<Found>
-    ensures { result ≡ greatest n 0 (usable t.now s.now) (λ j. value t.now p.now s.now (rung_at t.now j)) None }
-{
+    let front = k.table.front();
     let mut best = None;
-    for i in 0..n.min(32) {
-        best = improve(t, p, s, Place(i), best);
+    for (i, r) in front[..front.len().min(n as usize)].iter().enumerate() {
+        if !is_out(k.table, s, *r) {
+            best = rules::lowest::beat(best, Place(i as u32), k.value_at(s, *r, snr));
+        }
     }
     best
 }
@@ -63,43 +54,42 @@ fn end_if_out(t: &Table, s: &mut State)
 }
 
 // What an echo that was just smoothed does to try and choice.
-fn obey_echo(t: &Table, p: &Prices, s: &mut State)
-    ensures { s.new ≡ echoed t.now p.now s.old }
+#[tactic(auto, unfolding(account::specs::Price::value))]
+fn obey_echo(k: Terms, s: &mut State)
+    ensures { s.new ≡ echoed k.entry.table.now k.entry.prices.now s.old }
 {
-    end_if_out(t, s);
-    let here = s.choice(t);
-    if is_out(t, s, here) {
-        s.core.place = best_place(best_among(t, p, s, s.core.place.0));
+    end_if_out(k.table, s);
+    let here = s.choice(k.table);
+    if is_out(k.table, s, here) {
+        s.core.place = best_place(best_among(k, s, s.core.snr, s.core.place.0));
     }
 }
 
-// A frame's echo reading: a missing share, or an SNR under -6 dB, changes nothing.
+// A frame's echo reading: a missing share, or an SNR under the echo floor, -6 dB, changes nothing. (A NaN is not under it: so says `lt` of the rule.)
 // (Share and SNR, as in the source's call: see rate's calls.rt.)
 #[tactic(auto, unfolding(rules::specs::Echo::observe_echo))]
-pub fn observe_echo(t: &Table, p: &Prices, s: &mut State, share: Reading, snr: f64)
-    ensures { s.new ≡ observe_echo t.now p.now s.old share snr }
+pub fn observe_echo(k: Terms, s: &mut State, share: Reading, snr: f64)
+    ensures { s.new ≡ observe_echo k.entry.table.now k.entry.prices.now s.old share snr }
 {
     if let Some(x) = share {
         if !(snr < -6.0) {
             s.core.echo = rules::echo::smooth_echo(s.core.echo, x);
-            obey_echo(t, p, s);
+            obey_echo(k, s);
         }
     }
 }
 
-// The highest usable place at or under top, else 0. No place past 31 is usable, so the walk down starts there at the latest.
-// (`(1..=top.min(31)).rev().find(..)` was tried: std has no law of a range that is walked down, and its proof did not close.)
-fn highest_from(t: &Table, s: &State, top: u32) -> u32
-    ensures { result ≡ highest t.now s.now top }
+// The highest usable place at or under top, else place 0. No place past 31 is usable, so the walk down starts there at the latest.
+#[tactic(auto, using(rules::proofs::Walks::highest_capped, rules::proofs::Walks::highest_further))]
+fn highest_from(t: &Table, s: &State, top: Place) -> Place
+    ensures { result.0 ≡ highest t.now s.now top.0 }
 {
-    let mut i = top.min(31);
-    while i > 0 {
+    for i in (1..=top.0.min(31)).rev() {
         if is_usable(t, s, Place(i)) {
-            return i;
+            return Place(i);
         }
-        i -= 1;
     }
-    0
+    Place(0)
 }
 
 // A transmission went unanswered: a try ends, and the choice steps down.
@@ -107,36 +97,26 @@ fn highest_from(t: &Table, s: &State, top: u32) -> u32
 pub fn silent(t: &Table, s: &mut State, steps: u32)
     ensures { s.new ≡ silent t.now s.old steps }
 {
-    let top = s.core.place.0.saturating_sub(steps);
-    s.core.place = Place(highest_from(t, s, top));
+    let top = Place(s.core.place.0.saturating_sub(steps));
+    s.core.place = highest_from(t, s, top);
     s.core.trying = None;
 }
 
-// The place that a session starts at from the SNR that is known.
-fn first_known(t: &Table, p: &Prices, s: &State) -> Place
-    ensures { result.0 ≡ first_known t.now p.now s.now }
-{
-    best_place(best_among(t, p, s, t.places()))
-}
-
 // The place that a session starts at from one reading.
-#[tactic(auto, unfolding(account::specs::Price::value, account::specs::Price::estimate_at))]
-pub fn first_place(t: &Table, p: &Prices, s: &State, snr: f64) -> Place
-    ensures { result.0 ≡ first_place t.now p.now s.now snr }
+pub fn first_place(k: Terms, s: &State, snr: f64) -> Place
+    ensures { result.0 ≡ first_place k.entry.table.now k.entry.prices.now s.now snr }
 {
-    let mut z = *s;
-    z.core.snr = Some(snr);
-    first_known(t, p, &z)
+    best_place(best_among(k, s, Some(snr), k.table.places()))
 }
 
 // Starts from a reading, unless an SNR is known.
-#[tactic(auto, unfolding(rules::specs::Echo::seed, account::specs::Price::value, account::specs::Price::estimate_at))]
-pub fn seed(t: &Table, p: &Prices, s: &mut State, snr: f64)
-    ensures { s.new ≡ seed t.now p.now s.old snr }
+#[tactic(auto, unfolding(rules::specs::Echo::seed))]
+pub fn seed(k: Terms, s: &mut State, snr: f64)
+    ensures { s.new ≡ seed k.entry.table.now k.entry.prices.now s.old snr }
 {
     if s.core.snr.is_none() {
+        s.core.place = first_place(k, s, snr);
         s.core.snr = Some(snr);
-        s.core.place = first_known(t, p, s);
     }
 }
 
@@ -148,22 +128,21 @@ pub fn observe_snr(s: &mut State, snr: Reading)
 }
 
 // ---- `refuses`
-// (Two functions ask for OFDM rungs: one for both would take the second's further test as a closure, and its contract what the closure promises.)
+// (Two questions of the front's rungs, each one chain that ends in the library's `any`.)
 // Whether the front has OFDM rungs.
 fn has_ofdm(t: &Table) -> bool
     ensures { result ≡ some_from (places_of t.now) 0 (ofdm_at t.now) }
 {
-    (0..t.places()).any(|i| !t.is_floor(t.rung_at(Place(i))))
+    t.front().iter().any(|r| !t.is_floor(*r))
 }
 
 // Whether the front has OFDM rungs that are not out.
 fn has_ofdm_in(t: &Table, s: &State) -> bool
     ensures { result ≡ some_from (places_of t.now) 0 (λ i. ofdm_at t.now i && not (out t.now s.now (rung_at t.now i))) }
 {
-    (0..t.places()).any(|i| {
-        let r = t.rung_at(Place(i));
-        !t.is_floor(r) && !is_out(t, s, r)
-    })
+    t.front()
+        .iter()
+        .any(|r| !t.is_floor(*r) && !is_out(t, s, *r))
 }
 
 // Whether the front has OFDM rungs and all are out.

@@ -12,12 +12,20 @@ use ladder::front::usable_modes_by_rate;
 use ladder::table::table_for;
 use ladder::types::Rung;
 use limits::reading::Reading;
-use std::alloc::{AllocError, Global};
+use question::bytes::{byte_at, f64_of, past, u32_of};
+use std::alloc::{AllocError, Allocator};
 use std::io;
 use std::io::Read;
 
 // The bytes before a record's columns.
 const HEAD: usize = 10;
+
+// The bytes of an entry of a column.
+const FLOAT: usize = 8;
+
+const NUMBER: usize = 4;
+
+const READING: usize = 9;
 
 // The most bytes of an input that are read.
 const ROOM: u64 = 65536;
@@ -34,34 +42,25 @@ struct Record<'a> {
 }
 
 // ---- reading
-fn float_at(bytes: &[u8; 8]) -> f64 {
-    float::bits::float_of(u64::from_le_bytes(*bytes))
-}
-
-// Three columns, and what an entry of each is read by. (One function over the entry's size and the closure that reads it was tried: a bound on a closure that names a const
-// parameter is more than the check covers.)
-fn floats(alloc: Global, column: &[u8]) -> Result<Vec<f64>, AllocError> {
-    let (entries, _) = column.as_chunks::<8>();
-    entries.iter().map(float_at).collect(alloc)
-}
-
-fn wholes(alloc: Global, column: &[u8]) -> Result<Vec<u32>, AllocError> {
-    let (entries, _) = column.as_chunks::<4>();
-    entries
-        .iter()
-        .map(|&bytes| u32::from_le_bytes(bytes))
+// What is read of each entry of a column, where an entry has `size` bytes.
+fn column<A: Allocator + Drop, T: Drop, F: Fn(&[u8]) -> T>(
+    alloc: A,
+    bytes: &[u8],
+    size: usize,
+    read: F,
+) -> Result<Vec<T, A>, AllocError>
+    requires callable { F.IsAlwaysCallable read }
+    requires some { 0 < size }
+{
+    bytes
+        .chunks_exact(size)
+        .map(|entry| read(entry))
         .collect(alloc)
 }
 
-// An entry's first byte says whether there is a limit.
-fn reading_at(entry: &[u8; 9]) -> Reading {
-    let limit = float_at(entry.last_chunk()?);
-    (entry[0] != 0).then_some(limit)
-}
-
-fn readings(alloc: Global, column: &[u8]) -> Result<Vec<Reading>, AllocError> {
-    let (entries, _) = column.as_chunks::<9>();
-    entries.iter().map(reading_at).collect(alloc)
+// An echo limit: an entry's first byte says whether there is one. (Any byte but 0 does; `reading_of` of a question file asks for a 1.)
+fn limit_of(entry: &[u8]) -> Reading {
+    (byte_at(entry, 0) != 0).then(|| f64_of(past(entry, 1)))
 }
 
 // A column's bytes, where an entry has `size`, and what is behind them. A count over 40 is taken for 40.
@@ -77,19 +76,18 @@ fn first_record(text: &[u8]) -> Option<(Record<'_>, &[u8])>
     ensures { IfSome result (λ p. length p.1.now < length text.now) }
 {
     let (head, rest) = text.split_first_chunk::<HEAD>()?;
-    let (thresholds, rest) = split_column(rest, head[0], 8)?;
-    let (payloads, rest) = split_column(rest, head[1], 4)?;
-    let (capacities, rest) = split_column(rest, head[2], 4)?;
-    let (times, rest) = split_column(rest, head[3], 8)?;
-    let (limits, rest) = split_column(rest, head[4], 9)?;
-    let floors = u32::from_le_bytes([head[6], head[7], head[8], head[9]]);
+    let (thresholds, rest) = split_column(rest, head[0], FLOAT)?;
+    let (payloads, rest) = split_column(rest, head[1], NUMBER)?;
+    let (capacities, rest) = split_column(rest, head[2], NUMBER)?;
+    let (times, rest) = split_column(rest, head[3], FLOAT)?;
+    let (limits, rest) = split_column(rest, head[4], READING)?;
     let record = Record {
         thresholds,
         payloads,
         capacities,
         times,
         limits,
-        floors,
+        floors: u32_of(&head[6..]),
     };
     Some((record, rest))
 }
@@ -97,8 +95,7 @@ fn first_record(text: &[u8]) -> Option<(Record<'_>, &[u8])>
 // ---- writing: each number behind a space
 fn put_rungs(rt: &impl Print, rungs: &[Rung]) -> io::Result<()> {
     for rung in rungs {
-        let number = rung.0;
-        print!(rt; " {number}")?;
+        print!(rt; " {rung}")?;
     }
     Ok(())
 }
@@ -115,21 +112,18 @@ fn put_line(rt: &impl Print, columns: &Columns) -> io::Result<()> {
     print!(rt; " usable")?;
     match usable_modes_by_rate(columns.thresholds, columns.payloads, columns.times) {
         Ok(front) => put_rungs(rt, front.rungs())?,
-        Err(why) => {
-            let number = why.number();
-            print!(rt; " {number}")?;
-        }
+        Err(why) => print!(rt; " {}", why.number())?,
     }
     println!(rt)
 }
 
 // Answers a record.
-fn answer(rt: &impl Print, alloc: Global, record: &Record) -> io::Result<()> {
-    let thresholds = floats(alloc, record.thresholds)?;
-    let payloads = wholes(alloc, record.payloads)?;
-    let capacities = wholes(alloc, record.capacities)?;
-    let times = floats(alloc, record.times)?;
-    let limits = readings(alloc, record.limits)?;
+fn answer(rt: &(impl Print + Alloc), record: &Record) -> io::Result<()> {
+    let thresholds = column(rt.alloc(), record.thresholds, FLOAT, f64_of)?;
+    let payloads = column(rt.alloc(), record.payloads, NUMBER, u32_of)?;
+    let capacities = column(rt.alloc(), record.capacities, NUMBER, u32_of)?;
+    let times = column(rt.alloc(), record.times, FLOAT, f64_of)?;
+    let limits = column(rt.alloc(), record.limits, READING, limit_of)?;
     let columns = Columns {
         thresholds: &thresholds,
         payloads: &payloads,
@@ -142,9 +136,9 @@ fn answer(rt: &impl Print, alloc: Global, record: &Record) -> io::Result<()> {
 }
 
 // Answers each whole record. A record that runs past the end is not answered.
-fn replay(rt: &impl Print, alloc: Global, mut text: &[u8]) -> io::Result<()> {
+fn replay(rt: &(impl Print + Alloc), mut text: &[u8]) -> io::Result<()> {
     while let Some((record, rest)) = first_record(text) {
-        answer(rt, alloc, &record)?;
+        answer(rt, &record)?;
         text = rest;
     }
     Ok(())
@@ -153,5 +147,5 @@ fn replay(rt: &impl Print, alloc: Global, mut text: &[u8]) -> io::Result<()> {
 fn main(rt: HostRuntime) -> io::Result<()> {
     let mut text = Vec::new(rt.alloc());
     rt.reader().take(ROOM).read_to_end(&mut text)?;
-    replay(&rt, rt.alloc(), &text)
+    replay(&rt, &text)
 }

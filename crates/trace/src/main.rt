@@ -5,6 +5,7 @@
 #![tactic(auto)]
 
 ghost use Rattle.std.specs.Prelude.{◌≤◌, IfSome};
+ghost use Rattle.trace.specs.declared.TheConstants.{MOST, RUNG};
 
 use account::types::{Core, Try};
 use ladder::columns::Columns;
@@ -13,10 +14,10 @@ use limits::reading::Reading;
 use limits::refusal::Refusal;
 use question::bytes::{f64_of, part, past, reading_of, u32_of};
 use rate::player::Player;
-use rate::types::{RateController, Reply, TryMarks};
-use std::alloc::{AllocError, Global};
+use rate::types::{RateController, Reply};
+use std::alloc::AllocError;
 use std::io::Read;
-use std::{array, fmt, io};
+use std::{fmt, io};
 
 // The bytes of a rung and of a reading.
 const RUNG: usize = 24;
@@ -27,7 +28,7 @@ const READING: usize = 9;
 const MOST: usize = 32;
 
 // The most bytes of an input that are read.
-const ROOM: usize = 1048576;
+const ROOM: u64 = 1048576;
 
 // ---- the hash: one word more is xored in, the bits are turned left by 29, and a constant is added
 #[derive(Clone, Copy)]
@@ -51,35 +52,23 @@ impl Mix {
     }
 
     fn reading(self, x: Reading) -> Mix {
-        match x {
-            None => self.word(0).word(0),
-            Some(v) => self.word(1).float(v),
-        }
+        x.map_or(self.word(0).word(0), |v| self.word(1).float(v))
     }
 
     fn trying(self, y: Option<Try>) -> Mix {
-        match y {
-            None => self.word(0).word(0).word(0),
-            Some(t) => {
-                self.word(u64::from(t.rung.0) + 1)
-                    .word(u64::from(t.calls))
-                    .word(u64::from(t.frames))
-            }
-        }
+        y.map_or(self.word(0).word(0).word(0), |t| {
+            self.word(u64::from(t.rung.0) + 1)
+                .word(u64::from(t.calls))
+                .word(u64::from(t.frames))
+        })
     }
 
     fn mark(self, m: Option<Rung>) -> Mix {
-        match m {
-            None => self.word(0),
-            Some(r) => self.word(u64::from(r.0) + 1),
-        }
+        self.word(m.map_or(0, |r| u64::from(r.0) + 1))
     }
 
     fn rated(self, x: Result<f64, Refusal>) -> Mix {
-        match x {
-            Err(_) => self.word(0),
-            Ok(v) => self.float(v),
-        }
+        x.map_or(self.word(0), |v| self.float(v))
     }
 
     // The state but for the rungs.
@@ -145,6 +134,23 @@ impl<'a> Input<'a> {
         u32_of(self.bytes(4))
     }
 
+    // The next rows.
+    fn rows(&mut self, count: usize, size: usize) -> Rows<'a>
+        requires { (count ≤ MOST) × (size ≤ RUNG) }
+    {
+        Rows {
+            bytes: self.bytes(count * size),
+            size,
+            count,
+        }
+    }
+
+    // The body of the call that is next.
+    fn call(&mut self) -> &'a [u8] {
+        let n = self.number() as usize;
+        self.bytes(n)
+    }
+
     // The head that is next, unless it has more rungs or limits than are played.
     fn head(&mut self) -> Option<Head>
         ensures { IfSome result (λ head. (head.rungs ≤ MOST) × (head.limited ≤ MOST)) }
@@ -162,40 +168,51 @@ impl<'a> Input<'a> {
     }
 }
 
-// What is read of each of the n rows, at their starts.
-fn column<T: Drop, F: Fn(&[u8]) -> T>(
-    alloc: Global,
-    rows: &[u8],
-    n: usize,
-    read: F,
-) -> Result<Vec<T>, AllocError>
-    requires callable { F.IsAlwaysCallable read }
-    requires few { n ≤ MOST }
-{
-    (0..n).map(|i| read(past(rows, i * RUNG))).collect(alloc)
+// So many rows of `size` bytes, one after the other, of which the last may run past the input's end. (Bytes and a count, and no slice of rows: there is
+// none of a row past the end.)
+#[derive(Clone, Copy)]
+struct Rows<'a> {
+    bytes: &'a [u8],
+    size: usize,
+    count: usize,
+    ghost few: { (count ≤ MOST) × (size ≤ RUNG) },
+}
+
+impl Rows<'_> {
+    // What is read of each row, at its start. (Not by `chunks_exact`, which has no row to give past the input's end.)
+    fn column<T: Drop, F: Fn(&[u8]) -> T>(
+        &self,
+        rt: &impl AllocGlobal,
+        read: F,
+    ) -> Result<Vec<T>, AllocError>
+        requires callable { F.IsAlwaysCallable read }
+    {
+        (0..self.count)
+            .map(|i| read(past(self.bytes, i * self.size)))
+            .collect(rt.alloc())
+    }
 }
 
 // The controller of the list with that head, whose rungs and limits are next.
 fn controller(
-    alloc: Global,
+    rt: &impl AllocGlobal,
     input: &mut Input,
     head: Head,
 ) -> Result<Result<RateController, Refusal>, AllocError>
     requires { (head.rungs ≤ MOST) × (head.limited ≤ MOST) }
 {
-    let rows = input.bytes(head.rungs * RUNG);
-    let thresholds = column(alloc, rows, head.rungs, |row| f64_of(row))?;
-    let payload = column(alloc, rows, head.rungs, |row| u32_of(past(row, 8)))?;
-    let capacity = column(alloc, rows, head.rungs, |row| u32_of(past(row, 12)))?;
-    let times = column(alloc, rows, head.rungs, |row| f64_of(past(row, 16)))?;
-    let given = input.bytes(head.limited * READING);
-    let limits: [_; MOST] = array::from_fn(|i| reading_of(past(given, i * READING)));
+    let rungs = input.rows(head.rungs, RUNG);
+    let thresholds = rungs.column(rt, f64_of)?;
+    let payload = rungs.column(rt, |row| u32_of(past(row, 8)))?;
+    let capacity = rungs.column(rt, |row| u32_of(past(row, 12)))?;
+    let times = rungs.column(rt, |row| f64_of(past(row, 16)))?;
+    let limits = input.rows(head.limited, READING).column(rt, reading_of)?;
     Ok(RateController::for_table(&Columns {
         thresholds: &thresholds,
         payloads: &payload,
         capacities: &capacity,
         times: &times,
-        limits: &limits[..head.limited],
+        limits: &limits,
         floors: head.floors,
     }))
 }
@@ -209,7 +226,7 @@ impl fmt::Display for Tried {
     fn fmt<W: fmt::Write>(&self, f: &mut fmt::Formatter<W>) -> fmt::Result {
         match self.0 {
             None => f.write_str("-"),
-            Some(r) => write!(f, "{}", r.0),
+            Some(r) => write!(f, "{r}"),
         }
     }
 }
@@ -217,13 +234,10 @@ impl fmt::Display for Tried {
 // Writes a call's line. Of a refused call both marks are off.
 fn tell(rt: &impl Print, k: &RateController, reply: Reply) -> io::Result<()> {
     let number = reply.err().map_or(0, |why| why.number());
-    let marks = reply.unwrap_or(TryMarks {
-        ended: false,
-        begun: false,
-    });
-    let choice = k.choice().0;
+    let marks = reply.unwrap_or_default();
+    let choice = k.choice();
     let tried = Tried(k.probing());
-    let ofdm = u32::from(k.refuses(Rung(k.table.air.floors)));
+    let ofdm = u32::from(k.refuses_ofdm());
     let ended = u32::from(marks.ended);
     let begun = u32::from(marks.begun);
     let all = hash(k);
@@ -239,56 +253,50 @@ fn play_calls(
 ) -> io::Result<()> {
     let mut player = Player::new(start);
     for _ in 0..calls {
-        let n = input.number() as usize;
-        let reply = question::event::play(&mut player, input.bytes(n));
+        let reply = question::event::play(&mut player, input.call());
         tell(rt, player.controller(), reply)?;
     }
     Ok(())
 }
 
-// Passes over the calls that are next. It cannot fail, and `play_calls` can: a walk for both would be handed a closure, and answer a Result here too.
-fn skip_calls(input: &mut Input, calls: u32) {
-    for _ in 0..calls {
-        let n = input.number() as usize;
-        let _ = input.bytes(n);
-    }
-}
-
-// Plays the list that is next. After one that is too large nothing is read.
-fn play_list(rt: &impl Print, alloc: Global, input: &mut Input) -> io::Result<()> {
+// Plays the list that is next, or passes over the calls of a table that is refused. After a list that is too large nothing is read.
+fn play_list(rt: &(impl Print + AllocGlobal), input: &mut Input) -> io::Result<()> {
     let Some(head) = input.head() else {
         input.rest = &[];
         return Ok(());
     };
-    let made = controller(alloc, input, head)?;
+    let made = controller(rt, input, head)?;
     let calls = input.number();
     match made {
         Ok(k) => {
-            println!(rt; "table places {}", k.table.air.places)?;
+            println!(rt; "table places {}", k.table.front.count)?;
             play_calls(rt, k.for_air(head.wide), input, calls)
         }
         Err(why) => {
             println!(rt; "{why}")?;
-            skip_calls(input, calls);
+            for _ in 0..calls {
+                input.call();
+            }
             Ok(())
         }
     }
 }
 
-// Plays each list. Each takes some bytes, so there are no more lists than bytes.
-fn play(rt: &impl Print, alloc: Global, bytes: &[u8]) -> io::Result<()> {
+// Plays each list. Each takes some bytes, so there are no more lists than bytes. (A `while` on what is left would end by a promise of each reader, and of
+// what calls it, that it takes bytes: seven clauses more than this `break`.)
+fn play(rt: &(impl Print + AllocGlobal), bytes: &[u8]) -> io::Result<()> {
     let mut input = Input { rest: bytes };
     for _ in 0..bytes.len() {
         if input.rest.is_empty() {
             break;
         }
-        play_list(rt, alloc, &mut input)?;
+        play_list(rt, &mut input)?;
     }
     Ok(())
 }
 
 fn main(rt: HostRuntime) -> io::Result<()> {
     let mut lists = Vec::new(rt.alloc());
-    rt.reader().take(ROOM as u64).read_to_end(&mut lists)?;
-    play(&rt, rt.alloc(), &lists)
+    rt.reader().take(ROOM).read_to_end(&mut lists)?;
+    play(&rt, &lists)
 }

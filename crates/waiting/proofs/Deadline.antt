@@ -14,7 +14,7 @@ use Rattle.float.proofs.Order.{number, le_lt, lt_le_lt, le_self, le_right, not_l
 use Rattle.float.proofs.Rounding.{zero64}
 use Rattle.float.proofs.Monotone.{natural, sub_mono, sub_number, mul_mono_finite, mul_number, zero_is}
 use Rattle.float.proofs.Sum.{Naturals, from_zero}
-use Rattle.ladder.proofs.Cases.{no_of}
+use Rattle.std.proofs.lemmas.Float.{T_from_false}
 use Rattle.account.proofs.FullAir.{IsWait, wait_fits}
 use Rattle.rules.specs.Tries.{nano}
 use Rattle.waiting.specs.Waiting.{f48}
@@ -33,7 +33,7 @@ module _ (w : ℕ) (x : Float) (v : IsWait w) (fx : T (finite x)) where
 
   -- the test `time >= wait * air - 1e-9`, found false
   pub not_yet : (time : Float) → natural time → le (deadline w x) time ≡ false → T (lt time (deadline w x))
-  not_yet time n e = not_le time (deadline w x) (le_right zero64 time n) deadline_number (no_of e)
+  not_yet time n e = not_le time (deadline w x) (le_right zero64 time n) deadline_number (T_from_false _ e)
 
 longest : of_nat 48 ≡ f48
 unfolding of_int round of_bits

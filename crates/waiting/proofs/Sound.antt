@@ -40,13 +40,16 @@ pub record Sound (k : RateController) : Type 0 where
   pub ticks : Ticks k.state
 
 -- ---- what is accepted
+pub frame_ok : (t : Table) (f : Frame) → frame_verdict t f ≡ Ok tt → T (ok_air f.air) × T (ok_bytes f.capacity)
+frame_ok t f e =
+    let ok = ok_air f.air && ok_bytes f.capacity in
+    let h = unless_not ok OutsideLimits (or_else_lem (unless (in_table t f.rung.0) UnknownRung) (unless ok OutsideLimits) e).1 in
+    (and_l (ok_air f.air) (ok_bytes f.capacity) h, and_r (ok_air f.air) (ok_bytes f.capacity) h)
+
 frames_natural : (t : Table) (fs : List Frame) → first_bad t fs ≡ Ok tt → Naturals (airs fs)
 frames_natural t [] e = tt
 frames_natural t (f ∷ fs) e =
-    let ok = ok_air f.air && ok_bytes f.capacity in
-    let a = or_else_lem (frame_verdict t f) (first_bad t fs) e in
-    let b = or_else_lem (unless (in_table t f.rung.0) UnknownRung) (unless ok OutsideLimits) a.0 in
-    (air_natural f.air (and_l (ok_air f.air) (ok_bytes f.capacity) (unless_not ok OutsideLimits b.1)), frames_natural t fs a.1)
+    let a = or_else_lem (frame_verdict t f) (first_bad t fs) e in (air_natural f.air (frame_ok t f a.0).0, frames_natural t fs a.1)
 
 pub call_natural : (t : Table) (fs : List Frame) (snr : Reading) → verdict t (Frames fs snr) ≡ Ok tt → natural (call_air fs)
 unfolding verdict

@@ -19,7 +19,7 @@ use Rattle.std.specs.Prelude.{Ok, Option}
 use Rattle.limits.specs.Readings.{Reading}
 use Rattle.ladder.specs.declared.types.Table.{Table}
 use Rattle.ladder.specs.Types.{rung_at, rungs_of, places_of}
-use Rattle.ladder.proofs.Cases.{yes_of}
+use Rattle.std.proofs.lemmas.Float.{T_from_true}
 use Rattle.account.specs.declared.types.Tariff.{Tariff}
 use Rattle.account.specs.declared.types.State.{State}
 use Rattle.account.specs.State.{runs, time_of, wait_of}
@@ -132,7 +132,7 @@ airs_natural (c ∷ cs) k = go (frame_call k c) refl (airs_natural cs (step k c)
     rest = call_airs (step k c).controller cs
 
     go : (b : Bool) → frame_call k c ≡ b → Naturals rest → Naturals (cond b (call_air (frames_of c) ∷ rest) rest)
-    go true e h = (air_natural k c (was_carried k c (yes_of e)), h)
+    go true e h = (air_natural k c (was_carried k c (T_from_true _ e)), h)
     go false e h = h
 
 -- ---- a run
@@ -176,7 +176,7 @@ module _ (t : Table) (i : ℕ) (p : Option Tariff) (w : ℕ) where
       go true q next g =
           let r : Rises u k (call_air (frames_of c)) later.state =
           subst (λ (x : Table). Rises (rung_at x (suc i)) k (call_air (frames_of c)) later.state) e
-          (rises k s i p h.0 c (was_carried k c (yes_of q)) (h.1 (yes_of q)) (first i p later cs h.2)) in
+          (rises k s i p h.0 c (was_carried k c (T_from_true _ q)) (h.1 (T_from_true _ q)) (first i p later cs h.2)) in
           let l1 = subst (λ (x : Table). T (lt (time later) (deadline (wait_of k.state u) (full_air x k.prices.tariff u)))) e r.early in
           let l2 = subst (λ (x : Option Tariff). T (lt (time later) (deadline (wait_of k.state u) (full_air t x u)))) h.0.prices_stay l1 in
           let l3 = subst (λ (m : ℕ). T (lt (time later) (deadline m (full_air t p u)))) v l2 in

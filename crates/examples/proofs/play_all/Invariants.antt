@@ -2,8 +2,8 @@
 use Rattle.std.proofs.Common.{length}
 use Rattle.examples.proofs.play_all.Given as goal
 
-abbrev pub invariant-loop-rest : goal.invariant-loop-rest
-invariant-loop-rest g l = Unit {0}
+abbrev pub invariant-loop-paper : goal.invariant-loop-paper
+invariant-loop-paper g l = Unit {0}
 
-abbrev pub decreases-loop-rest : goal.decreases-loop-rest
-decreases-loop-rest g l = length l.rest
+abbrev pub decreases-loop-paper : goal.decreases-loop-paper
+decreases-loop-paper g l = length l.papers

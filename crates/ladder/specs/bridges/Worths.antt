@@ -1,13 +1,24 @@
--- A front by worths that are divided once: what `beats` and `beaten` come to where the worths of the rungs are at hand. Definitions only.
-use Rattle.std.specs.Prelude.{Bool, not, ◌&&◌, List, ℕ, eqb, length, slice_index_or, Float}
-use Rattle.std.specs.Float.{nan}
+-- A front by worths that are divided once: what `beats` and `beaten` come to where each rung's threshold and worth are at hand. Definitions only.
+use Rattle.std.specs.Prelude.{Bool, not, ◌&&◌, List, ℕ, eqb, get_or, Float}
 use Rattle.std.specs.Float.Ieee.{le}
-use Rattle.ladder.specs.Lists.{some_from}
+use Rattle.std.specs.List.{list_any, enumerate_from}
+use Rattle.float.specs.Numbers.{f0}
+use Rattle.ladder.specs.Lists.{tabulate}
+use Rattle.ladder.specs.Front.{worth_at}
+pub use Rattle.ladder.specs.declared.front.Offer.{Offer}
 
--- o is another rung than r, is worth at least as much, and has a threshold at most as high
-abbrev pub beats_with : List Float → List Float → ℕ → ℕ → Bool
-beats_with thresholds worths r o = not (eqb o r) && le (slice_index_or worths r nan) (slice_index_or worths o nan) && le (slice_index_or thresholds o nan) (slice_index_or thresholds r nan)
+-- o is worth at least as much as r, and has a threshold at most as high
+abbrev pub beats_with : Offer → Offer → Bool
+beats_with o r = le r.worth o.worth && le o.threshold r.threshold
 
--- whether one does
-abbrev pub beaten_with : List Float → List Float → ℕ → Bool
-beaten_with thresholds worths r = some_from (length thresholds) 0 (beats_with thresholds worths r)
+-- of the rung r
+abbrev pub offer_at : List Float → List ℕ → List Float → ℕ → Offer
+offer_at thresholds payloads times r = record { threshold = get_or thresholds r f0; worth = worth_at payloads times r }
+
+-- of each rung, as an array of 32
+unfoldable pub offers_of : List Float → List ℕ → List Float → List Offer
+offers_of thresholds payloads times = tabulate 32 0 (offer_at thresholds payloads times)
+
+-- whether the offer of another rung than r beats that of r
+abbrev pub beaten_with : List Offer → ℕ → Offer → Bool
+beaten_with offers r offer = list_any (λ p. not (eqb p.0 r) && beats_with p.1 offer) (enumerate_from 0 offers)

@@ -1,12 +1,14 @@
 -- A transmission in one pass: what a pass over the frames gathers, and what one frame does to it and to the accounts. The folds of Booking.antt and Tries.antt are what is
 -- right: proofs/Booked.antt shows that this one pass gives them all. Definitions only.
-use Rattle.std.specs.Prelude.{◌≡◌, Bool, true, false, not, ◌&&◌, ◌||◌, cond, ℕ, suc, ◌<◌, ◌^◌, ltb, T, List, Float, replicate, slice_index_or, None, Some}
+use Rattle.std.specs.Prelude.{◌≡◌, Bool, true, false, not, ◌&&◌, ◌||◌, cond, ℕ, suc, ◌<◌, ◌^◌, ltb, T, List, Float, replicate, slice_index_or, drop, ◌++◌, None, Some, unwrap_or}
+use Rattle.std.specs.Option.{option_map_or}
 use mathlib.Core.List.{foldl}
 use Rattle.std.specs.Int.Bits.{bit_or}
 use Rattle.std.specs.Float.Ieee.{lt, eq}
 use Rattle.float.specs.Numbers.{◌⊕◌, ◌⊗◌, ◌⊘◌, f0, f1}
 use Rattle.half.specs.Power.{half}
 use Rattle.limits.specs.Readings.{Reading}
+use Rattle.ladder.specs.Lists.{tabulate}
 use Rattle.ladder.specs.declared.types.Rung.{Rung}
 use Rattle.ladder.specs.declared.types.Table.{Table}
 use Rattle.ladder.specs.Types.{rung, row, rung_at, rungs_of, places_of, is_floor}
@@ -44,6 +46,17 @@ Fading t air d = (r : ℕ) → r < rungs_of t → slice_index_or d.by r f1 ≡ f
 abbrev pub Kept : Table → Fades → Type 0
 Kept t d = T (lt f0 d.air) → Fading t d.air d
 
+-- the factors of the rungs in use for a frame of so much air, over those that stood there
+unfoldable pub filled : Table → Float → Fades → Fades
+filled t air d = record { by = tabulate (rungs_of t) 0 (λ r. factor air (row t r).time) ++ drop (rungs_of t) d.by; air = air }
+
+-- the factors for a frame's air: those kept where it is the air that they are for
+unfoldable pub turned : Table → Float → Fades → Fades
+turned t air d = cond (lt f0 d.air && eq air d.air) d (filled t air d)
+
+abbrev pub turned_all : Table → Fades → List Frame → Fades
+turned_all t = foldl (λ d f. turned t f.air d)
+
 abbrev pub no_fades : Fades
 no_fades = record { by = replicate 32 f1; air = f0 }
 
@@ -54,22 +67,22 @@ offsets_by t (Some snr) f o = offset_step t snr f o
 
 -- ---- marks
 abbrev pub no_marks : Marks
-no_marks = record { ofdm = false; heard = false; chosen = false; alone = true }
+no_marks = record { heard = None; alone = None }
 
--- "a list with OFDM frames sets the failed mark if none of them is decoded, else clears it": whether one was sent, and whether one was decoded
+-- "a list with OFDM frames sets the failed mark if none of them is decoded, else clears it": whether one was decoded, once one was sent
 abbrev pub mark_family : Table → Frame → Marks → Marks
-mark_family t f m = cond (is_floor t f.rung.0) m (record m { ofdm = true; heard = m.heard || f.decoded })
+mark_family t f m = cond (is_floor t f.rung.0) m (record m { heard = Some (unwrap_or m.heard false || f.decoded) })
 
--- "some frame at the choice, and each of them decoded alone": whether one went there, and whether each did
+-- "some frame at the choice, and each of them decoded alone": whether each was, once one went there
 abbrev pub mark_choice : ℕ → Frame → Marks → Marks
-mark_choice here f m = cond (at here f) (record m { chosen = true; alone = m.alone && (f.decoded && not f.combined) }) m
+mark_choice here f m = cond (at here f) (record m { alone = Some (unwrap_or m.alone true && (f.decoded && not f.combined)) }) m
 
 -- after the pass: the failed mark, and the clean mark
 abbrev pub family_mark : Marks → Bool → Bool
-family_mark m failed = cond m.ofdm (not m.heard) failed
+family_mark m failed = option_map_or not m.heard failed
 
 abbrev pub choice_mark : Marks → Rung → Mark
-choice_mark m here = cond (m.chosen && m.alone) (Some here) None
+choice_mark m here = cond (unwrap_or m.alone false) (Some here) None
 
 -- ---- the try's own frames: "over at 3 frames", so it counts no further
 abbrev pub is_own : Trying → Frame → Bool

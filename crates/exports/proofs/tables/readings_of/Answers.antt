@@ -1,4 +1,4 @@
--- The closure answers each place's entry.
+-- The closure answers each place's entry: that it does so at every place the check does not hand on to `tabulated`, a lemma on any closure.
 use Rattle.std.proofs.Common.{rules}
 use Rattle.std.specs.Prelude.{None}
 use Rattle.ladder.proofs.Tabulating.{tabulated}

@@ -1,4 +1,4 @@
--- By `proofs/Taken.antt`.
+-- By `proofs/Taken.antt`, whose lemmas ask that t has its places: the check does not find this from the two tests and from t's being no NaN.
 use Rattle.std.proofs.Common.{◌≡◌, ℕ, Bool, true, false, not, T, sym, ap, subst, arith, lit<}
 use lib.Ieee.{Float, binary64, fits, le}
 use Rattle.half.specs.Power.{f1022}

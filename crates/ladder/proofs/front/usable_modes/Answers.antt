@@ -1,4 +1,4 @@
--- The constants lent are the wide air's columns, by computation.
+-- The constants lent are the wide air's columns, by computation: the check opens no float's bits, and an attribute cannot name the logic's `of_bits`.
 use lib.Ieee.{of_bits, neg}
 use Rattle.ladder.proofs.front.usable_modes.Goals as goal
 

@@ -1,4 +1,4 @@
--- The chain adds the lengths of the lines, one after the other.
+-- The chain adds the lengths of the lines, one after the other: the check does no induction over lines, and does not put the adapters' facts together.
 use Rattle.std.proofs.Common.{◌≡◌, ℕ, ◌+◌, List, [], ◌∷◌, length, refl, ap, ◌∙◌, add-one, length-append, rules, tests}
 use Rattle.std.specs.List.{sum_by, enumerate_from}
 use Rattle.std.proofs.lemmas.List.Sums.{sum_by-cons}

@@ -1,15 +1,8 @@
--- What the sheet call left and answered decides.
+-- A refused file's line is printed over what the sheet call left: the check does not find that this is the slice as it was.
 use mathlib.Core.Path.{sym, ◌∙◌}
 use native.Mathlib.Omega.{arith}
-use Rattle.paper.proofs.Printed.{printed_sheet, printed_refused}
+use Rattle.paper.proofs.Printed.{printed_refused}
 use Rattle.paper.proofs.sheet.print_sheet.Goals as goal
-
-pub returns-in-Ok : goal.returns-in-Ok
-returns-in-Ok c =
-    let a = c.args in
-    let s = c.sheet.ensures in
-    let r = printed_sheet a.question.now a.out.now _ s.out_after _ (sym c.in-Ok.is ∙ s.value) in
-    record { value = r.0; out_after = r.1; within = c.in-Ok.ensures.within }
 
 pub returns-in-Err : goal.returns-in-Err
 returns-in-Err c =

@@ -1,4 +1,4 @@
--- The burst counts are chunks of 2 bytes, and each is within its limit.
+-- The burst counts are chunks of 2 bytes, and each is within its limit: which list `chunks_exact` yields the check does not find.
 use mathlib.Core.Path.{◌∙◌}
 use native.Mathlib.Omega.{arith}
 use borrow.Author.Rules.{rules}

@@ -1,4 +1,4 @@
--- The frames are chunks of 12 bytes, and each has known flags.
+-- The frames are chunks of 12 bytes, and each has known flags: which list `chunks_exact` yields the check does not find.
 use mathlib.Core.Path.{◌∙◌}
 use native.Mathlib.Omega.{arith}
 use borrow.Author.Rules.{rules}

@@ -1,5 +1,6 @@
+use Rattle.question.specs.File.{event_count}
 use Rattle.question.proofs.Pairs.{Chained}
 use Rattle.question.proofs.file.ok_pairs.Given as goal
 
-abbrev pub invariant-loop-i : goal.invariant-loop-i
-invariant-loop-i l = Chained l.file l.n l.i l.at
+abbrev pub invariant-loop-bytes : goal.invariant-loop-bytes
+invariant-loop-bytes l = Chained l.file (event_count l.file) l.bytes-index l.at

@@ -1,4 +1,4 @@
--- Of the bodies that the reader gives, each has its kind's form.
+-- Of the bodies that the reader gives, each has its kind's form: which list a reader yields the check does not find.
 use mathlib.Core.Path.{◌∙◌}
 use borrow.Author.Rules.{rules}
 use borrow.Author.Tests.{tests}

@@ -1,4 +1,4 @@
--- The two ends by the bits of the code's constants.
+-- The two ends by the bits of the code's constants, which the check does not open; an attribute cannot name the logic's `of_bits`, `neg` and `le`.
 use mathlib.Core.Path.{◌≡◌, refl, ◌∙◌}
 use lib.Ieee.{of_bits, neg, le}
 use Rattle.float.specs.Numbers.{f64, f5}

@@ -1,4 +1,4 @@
--- By its two values.
+-- By its two values: what `f64::from` makes of a bool the check does not open, and an attribute cannot name the logic's `of_int`.
 use mathlib.Core.Path.{◌≡◌, refl, ◌∙◌}
 use mathlib.Core.Bool.{Bool, true, false, cond}
 use lib.Ieee.{binary64, of_int, of_bits}

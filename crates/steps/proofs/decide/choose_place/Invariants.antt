@@ -7,4 +7,4 @@ use Rattle.rules.proofs.Greatest.{worth}
 use Rattle.steps.proofs.decide.choose_place.Given as goal
 
 abbrev pub invariant-loop-i : goal.invariant-loop-i
-invariant-loop-i l = greatest (places_of l.t - l.i) l.i (candidate l.t l.s) (worth l.t l.p l.s) l.best ≡ choose l.t l.p l.s
+invariant-loop-i l = greatest (places_of l.k.table.now - l.i) l.i (candidate l.k.table.now l.s) (worth l.k.table.now l.k.prices.now l.s) l.best ≡ choose l.k.table.now l.k.prices.now l.s

@@ -1,10 +1,11 @@
 -- What is left of the walk gives what the whole walk gives.
 use Rattle.std.proofs.Common.{◌≡◌, ◌-◌, min}
 use Rattle.std.specs.Prelude.{None}
+use Rattle.ladder.specs.Types.{places_of}
 use Rattle.rules.specs.Echo.{usable}
 use Rattle.rules.specs.Lowest.{greatest}
-use Rattle.rules.proofs.Greatest.{worth}
+use Rattle.steps.specs.bridges.Worth.{worth_at}
 use Rattle.steps.proofs.echo.best_among.Given as goal
 
 abbrev pub invariant-loop-i : goal.invariant-loop-i
-invariant-loop-i l = greatest (min 32 l.n - l.i) l.i (usable l.t l.s) (worth l.t l.p l.s) l.best ≡ greatest l.n 0 (usable l.t l.s) (worth l.t l.p l.s) None
+invariant-loop-i l = greatest (min (places_of l.k.table.now) l.n - l.i) l.i (usable l.k.table.now l.s) (worth_at l.k.table.now l.k.prices.now l.s l.snr) l.best ≡ greatest l.n 0 (usable l.k.table.now l.s) (worth_at l.k.table.now l.k.prices.now l.s l.snr) None

@@ -1,15 +1,14 @@
--- `any` over the places is `some_from` over them.
-use Rattle.std.proofs.Common.{◌∙◌, ℕ, Bool, arith, rules}
-use Rattle.std.proofs.lemmas.Iterator.{YieldsList-from_range}
+-- `any` over the front's rungs is `some_from` over its places: the check does not hand the closure's test on to the lemma.
+use Rattle.std.proofs.Common.{not, ◌∙◌, Bool, ltb, take, rules}
+use Rattle.std.proofs.lemmas.Iterator.{YieldsList-from_slice}
 use Rattle.std.proofs.lemmas.Iterator.Search.{any_from_yields_List}
+use Rattle.ladder.specs.declared.types.Rung.{Rung}
 use Rattle.ladder.specs.Types.{places_of}
-use Rattle.ladder.proofs.Ranges.{list_any-range}
-use Rattle.rules.specs.Echo.{ofdm_at}
+use Rattle.steps.proofs.Front.{any_on_front}
 use Rattle.steps.proofs.echo.has_ofdm.Goals as goal
 
 pub returns : goal.returns
 returns c =
     let t = c.args.t.now in
-    let n = places_of t in
-    let test : ℕ → Bool = ofdm_at t in
-    any_from_yields_List test _ _ _ c.any.ensures.ran (YieldsList-from_range 0 n n (cc) (omega arith)) (λ x b q k. search rules) ∙ list_any-range test n 0
+    let test : Rung → Bool = λ r. not (ltb r.0 t.air.floors) in
+    any_from_yields_List test _ _ _ c.any.ensures.ran (YieldsList-from_slice (take (places_of t) t.front.rungs) (cc)) (λ x b q k. search rules) ∙ any_on_front t (rw c.front.ensures.rungs at c.front.ensures.count) test

@@ -4,7 +4,4 @@ use Rattle.rules.specs.Echo.{highest}
 use Rattle.steps.proofs.echo.highest_from.Given as goal
 
 abbrev pub invariant-loop-i : goal.invariant-loop-i
-invariant-loop-i l = highest l.t l.s l.i ≡ highest l.t l.s l.top
-
-abbrev pub decreases-loop-i : goal.decreases-loop-i
-decreases-loop-i l = l.i
+invariant-loop-i l = highest l.t l.s l.i ≡ highest l.t l.s l.fn.top.0

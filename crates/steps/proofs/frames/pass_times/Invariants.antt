@@ -1,8 +1,12 @@
--- What is left of the places, from the times now, gives what all places give.
-use Rattle.std.proofs.Common.{◌≡◌, ◌-◌, length}
+-- What is left of the places, from the times now, gives what all places give; and the times alone move.
+use Rattle.std.proofs.Common.{◌≡◌, ◌-◌}
 use Rattle.ladder.specs.Types.{places_of}
+use Rattle.account.specs.State.{with_since}
 use Rattle.rules.specs.Booking.{passed}
 use Rattle.steps.proofs.frames.pass_times.Given as goal
 
-abbrev pub invariant-loop-i : goal.invariant-loop-i
-invariant-loop-i l = record { long : length l.since ≡ 32; left : passed (places_of l.t - l.i) l.i l.t l.air l.since ≡ passed (places_of l.t) 0 l.t l.air l.initial.since }
+abbrev pub invariant-loop-r : goal.invariant-loop-r
+invariant-loop-r l = record {
+  alone : l.s ≡ with_since l.initial.s l.s.since;
+  left : passed (places_of l.t - l.r-index) l.r-index l.t l.air l.s.since ≡ passed (places_of l.t) 0 l.t l.air l.initial.s.since;
+}

@@ -1,4 +1,4 @@
--- The closure answers each rung's row.
+-- The closure answers each rung's row: that it does so at every place the check does not hand on to `tabulated`, a lemma on any closure.
 use Rattle.std.proofs.Common.{rules}
 use Rattle.ladder.specs.bridges.Lent.{lent}
 use Rattle.ladder.specs.Types.{no_row}

@@ -8,4 +8,4 @@ use Rattle.rules.proofs.accounts.Fades.fill.Given as goal
 
 abbrev pub invariant-loop-i : goal.invariant-loop-i
 invariant-loop-i l =
-    record { carried : Carried l.air l.fade; filled : (r : ℕ) → r < l.i → slice_index_or l.self.by r f1 ≡ factor l.air (row l.t r).time }
+    record { carried : Carried l.air l.fade; filled : (r : ℕ) → r < l.i → slice_index_or l.by-items r f1 ≡ factor l.air (row l.t r).time }

@@ -1,0 +1,8 @@
+-- The array has at each place what the list has: what the closure answers at every place the check does not hand on to the lemma.
+use borrow.Author.Rules.{rules}
+use Rattle.question.proofs.Bodies.{first_made}
+use Rattle.question.proofs.bytes.first.Goals as goal
+
+pub returns : goal.returns
+returns g c =
+    first_made 0 c.args.bytes.now c.from_fn.result g.row.N c.from_fn.ensures.items (λ i y q k. search rules)
