@@ -11,16 +11,7 @@ use Rattle.limits.specs.Refusals.{unless}
 use Rattle.limits.specs.declared.refusal.Refusal.TheVariants.{FileHeader}
 use Rattle.std.specs.Prelude.{Ok}
 use Rattle.limits.proofs.Verdicts.{or_else_lem, unless_not}
-use Rattle.std.specs.List.{list_all, enumerate_from}
-use Rattle.std.proofs.lemmas.List.FromFn.{length-enumerate_from, get_or-enumerate_from}
-use Rattle.std.specs.declared.iter.Enumerate.{Enumerate}
-use Rattle.std.specs.Iterator.{Yields, YieldsFirstBy}
-use Rattle.std.specs.Iterator.Adapters.{enumerate_steps}
-use Rattle.std.proofs.lemmas.Iterator.{YieldsList}
-use Rattle.std.proofs.lemmas.Iterator.Consumers.{YieldsList-from_first, YieldsList-from_enumerate, YieldsList-turn, YieldsList-end}
-use Rattle.std.proofs.Common.{Option, Some, None}
-use denote.Ref.{Bor}
-use Rattle.question.specs.declared.reader.Reader.{Reader}
+use Rattle.std.specs.List.{list_all}
 use Rattle.question.specs.Body.{ok_body}
 use Rattle.question.specs.File.{event_count, air, known_air, ok_header, body_at, bodies_from, ok_body_at, ok_bodies, file_verdict}
 use Rattle.ladder.proofs.Tabulating.{length_tabulate, tabulate_at}
@@ -43,33 +34,6 @@ length_bodies s = ap length (tabulate_all (body_at s) (event_count s)) ∙ lengt
 pub bodies_at : (s : List ℕ) (n : ℕ) (d : List ℕ) → n < event_count s → get_or (bodies_from s 0) n d ≡ body_at s n
 unfolding bodies_from
 bodies_at s n d h = let q : 0 + n ≡ n = omega arith in ap (λ bs. get_or bs n d) (tabulate_all (body_at s) (event_count s)) ∙ tabulate_at (event_count s) 0 (body_at s) n d h ∙ ap (body_at s) q
-
--- ---- with their numbers, as `enumerate` gives them of a reader that has all of them left
-abbrev left : Reader → List (List ℕ)
-left r = bodies_from r.file.now r.next
-
-abbrev pub turns : Enumerate Reader → Option (ℕ × Bor (List ℕ)) → Enumerate Reader → Type 0
-turns = enumerate_steps (YieldsFirstBy (λ (x : Bor (List ℕ)). x.now) left)
-
-module _ (s : List ℕ) (it t u : Enumerate Reader) (e : bodies_from it.iter.file.now it.iter.next ≡ bodies_from s 0) (f : it.count ≡ 0) (xs : List (ℕ × Bor (List ℕ))) (y : Yields turns it xs t) (r : Option (ℕ × Bor (List ℕ))) (w : turns t r u) where
-  all_yielded : YieldsList {B = ℕ × List ℕ} turns (λ p. (p.0, p.1.now)) it (enumerate_from 0 (bodies_from s 0))
-  all_yielded = YieldsList-from_enumerate (YieldsList-from_first (λ x. x.now) left (bodies_from s 0) e) f
-
-  -- xs came, and then another
-  pub this_body : (i : ℕ) (b : Bor (List ℕ)) → r ≡ Some (i, b) → (length xs < event_count s) × (i ≡ length xs) × (b.now ≡ body_at s (length xs))
-  this_body i b q =
-      let turn = YieldsList-turn all_yielded xs t y r u (i, b) q w in
-      let few : length xs < length (bodies_from s 0) = omega (arith, turn.0, length-enumerate_from 0 (bodies_from s 0)) in
-      let room : length xs < event_count s = omega (arith, length_bodies s) in
-      let both : ◌≡◌ {A = ℕ × List ℕ} (i, b.now) (0 + length xs, get_or (bodies_from s 0) (length xs) b.now) = turn.1 ∙ get_or-enumerate_from 0 (bodies_from s 0) (length xs) (i, b.now) few in
-      let place : 0 + length xs ≡ length xs = omega arith in
-      (room, ap (λ p. p.0) both ∙ place, ap (λ p. p.1) both ∙ bodies_at s (length xs) b.now room)
-
-  -- xs came, and no more
-  pub no_body : r ≡ None → event_count s ≤ length xs
-  no_body q =
-      let all : length xs ≡ length (enumerate_from 0 (bodies_from s 0)) = (YieldsList-end all_yielded xs t y r u q w).1 in
-      omega (arith, length-enumerate_from 0 (bodies_from s 0), length_bodies s)
 
 pub bodies_good : (s : List ℕ) → list_all ok_body (bodies_from s 0) ≡ ok_bodies s
 unfolding bodies_from ok_bodies ok_body_at
