@@ -15,12 +15,12 @@ use Rattle.float.proofs.Rounding.{zero64, round_zero}
 use Rattle.float.proofs.Monotone.{natural, mul_natural, mul_mono_finite, between_limits}
 use Rattle.limits.specs.Values.{f60, milli, ok_air}
 use Rattle.ladder.specs.declared.types.Table.{Table}
-use Rattle.ladder.specs.Types.{row, rungs_of}
+use Rattle.ladder.specs.Types.{row, rung_count}
 use Rattle.std.proofs.lemmas.Bool.{cond_both}
 use Rattle.std.proofs.lemmas.Float.{T_from_true}
 use Rattle.ladder.proofs.TableSound.{TableSound}
 use Rattle.account.specs.State.{Tariff, State, wait_of}
-use Rattle.account.specs.Price.{burst_or, full_air, wait_seconds}
+use Rattle.account.specs.Price.{burst_or, full_air, wait_s}
 
 -- ---- a number as f64
 of_natural : (n : ℕ) → natural (of_nat n)
@@ -64,7 +64,7 @@ pub bursts_small : (p : Option Tariff) → TariffSound p → (r d : ℕ) → d �
 bursts_small None ps r d k = k
 bursts_small (Some p) ps r d k = cond_both (ltb r p.counted) _ _ (λ (o : Option ℕ). unwrap_or o d ≤ 1000) (λ e. ps r (ltb→lt r p.counted (T_from_true _ e))) (λ e. k)
 
-module _ (t : Table) (p : Option Tariff) (ts : TableSound t) (ps : TariffSound p) (r : ℕ) (h : r < rungs_of t) where
+module _ (t : Table) (p : Option Tariff) (ts : TableSound t) (ps : TariffSound p) (r : ℕ) (h : r < rung_count t) where
   burst_small : burst_or p r 1 ≤ 1000
   burst_small = bursts_small p ps r 1 (omega arith)
 
@@ -103,8 +103,8 @@ wait_fits w h =
     let k = of_mono w 48 h in
     (between_limits zero64 (of_nat w) (of_nat 48) tt longest_finite (of_natural w) k, of_natural w, k)
 
-pub seconds_natural : (t : Table) (p : Option Tariff) (s : State) (r : ℕ) → TableSound t → TariffSound p → r < rungs_of t → IsWait (wait_of s r) → natural (wait_seconds t p s r)
-unfolding wait_seconds
+pub seconds_natural : (t : Table) (p : Option Tariff) (s : State) (r : ℕ) → TableSound t → TariffSound p → r < rung_count t → IsWait (wait_of s r) → natural (wait_s t p s r)
+unfolding wait_s
 seconds_natural t p s r ts ps h w =
     let k = wait_fits (wait_of s r) w in
     mul_natural binary64 (of_nat (wait_of s r)) (full_air t p r) k.0 (full_finite t p ts ps r h) k.1 (full_natural t p ts ps r h)

@@ -14,27 +14,27 @@ abbrev pub offset : Table → State → ℕ → Float
 offset t s r = cond (is_floor t r) s.core.offsets.floor s.core.offsets.ofdm
 
 -- "probability at SNR - family offset - margin"; "slope 0.5"
-abbrev pub chance_at : Float → Float → Float → Float → Float
-chance_at threshold margin off snr = decode_probability (snr ⊖ off ⊖ margin) threshold f½
+abbrev pub prior_p_at : Float → Float → Float → Float → Float
+prior_p_at threshold margin off snr = decode_probability (snr ⊖ off ⊖ margin) threshold f½
 
-unfoldable pub chance : Table → ℕ → Float → Float → Float
-chance t r off snr = chance_at (row t r).threshold t.air.margin off snr
+unfoldable pub prior_p : Table → ℕ → Float → Float → Float
+prior_p t r off snr = prior_p_at (row t r).threshold t.air.margin off snr
 
 -- "prior = capacity × probability .., or 0 without SNR"
 abbrev pub prior_of : Row → Float → Float → Reading → Float
 prior_of a margin off None = f0
-prior_of a margin off (Some snr) = of_nat a.capacity ⊗ chance_at a.threshold margin off snr
+prior_of a margin off (Some snr) = of_nat a.capacity ⊗ prior_p_at a.threshold margin off snr
 
 abbrev pub prior : Table → ℕ → Float → Reading → Float
 prior t r off snr = prior_of (row t r) t.air.margin off snr
 
 -- "Estimate = (bytes + 2 × prior)/(air + 2 × frame time)"
-abbrev pub estimate_of : Account → Float → Float → Float
-estimate_of a prior time = (a.bytes ⊕ f2 ⊗ prior) ⊘ (a.air ⊕ f2 ⊗ time)
+abbrev pub estimate_by : Account → Float → Float → Float
+estimate_by a prior time = (a.bytes ⊕ f2 ⊗ prior) ⊘ (a.air ⊕ f2 ⊗ time)
 
 -- at an SNR
 unfoldable pub estimate_at : Table → State → ℕ → Reading → Float
-estimate_at t s r snr = estimate_of (account s r) (prior t r (offset t s r) snr) (row t r).time
+estimate_at t s r snr = estimate_by (account s r) (prior t r (offset t s r) snr) (row t r).time
 
 abbrev pub estimate : Table → State → ℕ → Float
 estimate t s r = estimate_at t s r s.core.snr
@@ -93,5 +93,5 @@ unfoldable pub full_air : Table → Option Tariff → ℕ → Float
 full_air t p r = of_nat (burst_or p r 1) ⊗ (row t r).time
 
 -- "its wait in seconds is wait × that"
-unfoldable pub wait_seconds : Table → Option Tariff → State → ℕ → Float
-wait_seconds t p s r = of_nat (wait_of s r) ⊗ full_air t p r
+unfoldable pub wait_s : Table → Option Tariff → State → ℕ → Float
+wait_s t p s r = of_nat (wait_of s r) ⊗ full_air t p r

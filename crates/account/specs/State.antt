@@ -39,8 +39,8 @@ abbrev pub account : State → ℕ → Account
 account s r = slice_index_or s.accounts r no_account
 
 -- a rung's time since its try, and its wait
-abbrev pub time_of : State → ℕ → Float
-time_of s r = slice_index_or s.since r f0
+abbrev pub since_of : State → ℕ → Float
+since_of s r = slice_index_or s.since r f0
 
 abbrev pub wait_of : State → ℕ → ℕ
 wait_of s r = slice_index_or s.wait r 6
@@ -63,20 +63,20 @@ abbrev pub core_with_place : Core → ℕ → Core
 core_with_place c i = record c { place = place i }
 
 -- ---- changing one field
-abbrev pub with_since : State → List Float → State
-with_since s l = record s { since = l }
+abbrev pub with_all_since : State → List Float → State
+with_all_since s l = record s { since = l }
 
-abbrev pub with_waits : State → List ℕ → State
-with_waits s l = record s { wait = l }
+abbrev pub with_all_waits : State → List ℕ → State
+with_all_waits s l = record s { wait = l }
 
 abbrev pub with_core : State → Core → State
 with_core s c = record s { core = c }
 
-abbrev pub with_time : State → ℕ → Float → State
-with_time s r x = with_since s (slice_set s.since r x)
+abbrev pub with_since : State → ℕ → Float → State
+with_since s r x = with_all_since s (slice_set s.since r x)
 
 abbrev pub with_wait : State → ℕ → ℕ → State
-with_wait s r w = with_waits s (slice_set s.wait r w)
+with_wait s r w = with_all_waits s (slice_set s.wait r w)
 
 abbrev pub with_trying : State → Trying → State
 with_trying s y = with_core s (core_with_trying s.core y)

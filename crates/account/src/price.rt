@@ -1,6 +1,6 @@
 // What a rung is rated by, of a table, the prices set and a state that are lent.
 ghost use Rattle.std.specs.Prelude.{◌≡◌};
-ghost use Rattle.account.specs.Price.{offset, chance, prior, estimate_at, estimate, lossless, burst, control, overhead_of, priced, value, lossless_price, full_air, wait_seconds};
+ghost use Rattle.account.specs.Price.{offset, prior_p, prior, estimate_at, estimate, lossless, burst, control, overhead_of, priced, value, lossless_price, full_air, wait_s};
 
 use crate::types::{Families, State, Tariff, Terms};
 use ladder::types::{Rung, Table};
@@ -26,23 +26,23 @@ fn offset(t: &Table, s: &State, r: Rung) -> f64
 }
 
 // The prior's chance that a frame decodes, read `off` under the SNR.
-#[tactic(auto, unfolding(crate::specs::Price::chance))]
-pub fn chance(t: &Table, r: Rung, off: f64, snr: f64) -> f64
-    ensures { result ≡ chance t.now r.0 off snr }
+#[tactic(auto, unfolding(crate::specs::Price::prior_p))]
+pub fn prior_p(t: &Table, r: Rung, off: f64, snr: f64) -> f64
+    ensures { result ≡ prior_p t.now r.0 off snr }
 {
     half::logistic::logistic(snr - off - t.air.margin, t.row(r).threshold, SLOPE_DB)
 }
 
 // What the prior expects of a frame, in bytes: 0 without an SNR.
-#[tactic(auto, unfolding(crate::specs::Price::chance))]
+#[tactic(auto, unfolding(crate::specs::Price::prior_p))]
 fn prior(t: &Table, r: Rung, off: f64, snr: Reading) -> f64
     ensures { result ≡ prior t.now r.0 off snr }
 {
-    snr.map_or(0.0, |x| t.row(r).capacity as f64 * chance(t, r, off, x))
+    snr.map_or(0.0, |x| t.row(r).capacity as f64 * prior_p(t, r, off, x))
 }
 
 // Data bytes a second of air at the rung delivers, measured and prior together, at an SNR.
-#[tactic(auto, unfolding(crate::specs::Price::estimate_at, crate::specs::Price::chance))]
+#[tactic(auto, unfolding(crate::specs::Price::estimate_at, crate::specs::Price::prior_p))]
 fn estimate_at(t: &Table, s: &State, r: Rung, snr: Reading) -> f64
     ensures { result ≡ estimate_at t.now s.now r.0 snr }
 {
@@ -152,9 +152,9 @@ impl Terms<'_> {
     }
 
     // A rung's wait in seconds: so many full transmissions.
-    #[tactic(auto, unfolding(crate::specs::Price::wait_seconds))]
-    pub fn wait_seconds(self, s: &State, r: Rung) -> f64
-        ensures { result ≡ wait_seconds self.entry.table.now self.entry.prices.now.tariff s.now r.0 }
+    #[tactic(auto, unfolding(crate::specs::Price::wait_s))]
+    pub fn wait_s(self, s: &State, r: Rung) -> f64
+        ensures { result ≡ wait_s self.entry.table.now self.entry.prices.now.tariff s.now r.0 }
     {
         s.wait(r) as f64 * self.full_air(r)
     }

@@ -1,6 +1,6 @@
 // How the state is read, changed and fresh. Outside the arrays the source's own defaults are read, and nothing is stored, so each function is total.
 ghost use Rattle.std.specs.Prelude.{◌≡◌, not, ◌&&◌, ◌||◌, is_some, slice_set};
-ghost use Rattle.account.specs.State.{account, time_of, wait_of, choice, with_time, with_wait};
+ghost use Rattle.account.specs.State.{account, since_of, wait_of, choice, with_since, with_wait};
 
 use crate::types::{Account, Core, Offsets, State, Try};
 use ladder::types::{Place, Rung, Table};
@@ -41,8 +41,8 @@ impl State {
     }
 
     // A rung's time since its try, in seconds of air.
-    pub fn time(&self, r: Rung) -> f64
-        ensures { result ≡ time_of self.now r.0 }
+    pub fn since(&self, r: Rung) -> f64
+        ensures { result ≡ since_of self.now r.0 }
     {
         self.since.get(r.0 as usize).copied().unwrap_or(0.0)
     }
@@ -62,8 +62,8 @@ impl State {
     }
 
     // ---- changing: nothing where there is no such rung
-    pub fn set_time(&mut self, r: Rung, x: f64)
-        ensures { self.new ≡ with_time self.old r.0 x }
+    pub fn set_since(&mut self, r: Rung, x: f64)
+        ensures { self.new ≡ with_since self.old r.0 x }
     {
         store(&mut self.since, r, x);
     }

@@ -11,8 +11,8 @@ use Rattle.question.specs.File.{event_count, air, body_at}
 use Rattle.question.specs.Start.{fresh_for}
 pub use Rattle.by_value.specs.declared.Sums.{Sums}
 
-abbrev pub none : Sums
-none = record { plain = 0; placed = 0 }
+abbrev pub no_sums : Sums
+no_sums = record { plain = 0; placed = 0 }
 
 -- one choice more; both sums are u32 that wrap
 abbrev pub added : Sums → ℕ → Sums
@@ -32,10 +32,10 @@ frame_sums (suc n) i frames snr k s =
 
 -- "each event is a call"
 abbrev pub events_of : List ℕ → ℕ
-events_of file = (event_sums (event_count file) 0 file (fresh_for (air file)) none).placed
+events_of file = (event_sums (event_count file) 0 file (fresh_for (air file)) no_sums).placed
 
 -- the 256 frames of the first event, the same reading with each
 abbrev pub frames_of_first : List ℕ → ℕ
 frames_of_first file =
     let body = body_at file 0 in
-    (frame_sums 256 0 (first_of 256 no_frame (frames_in body)) (reading_of (drop 1 body)) (fresh_for (air file)) none).placed
+    (frame_sums 256 0 (first_of 256 no_frame (frames_in body)) (reading_of (drop 1 body)) (fresh_for (air file)) no_sums).placed

@@ -8,8 +8,8 @@ use Rattle.ladder.specs.Front.{beaten, front_of}
 use Rattle.ladder.specs.Tables.{table_verdict, table_of, rows_of}
 use Rattle.rules.specs.Echo.{silent}
 use Rattle.rate.specs.Calls.{after, step, verdict, accepted}
-use Rattle.checked.specs.Rows.{Each, rows}
+use Rattle.checked.specs.Rows.{Each, p_rows}
 
-pub checked : Each rows
+pub checked : Each p_rows
 unfolding powers descent series half exp decode_probability beaten front_of table_verdict table_of rows_of after step verdict accepted silent of_bits of_int neg add sub mul div lt le round
 checked = (refl, (refl, (refl, (refl, ((refl, refl), (refl, (refl, (refl, (refl, (refl, (refl, tt)))))))))))

@@ -14,9 +14,9 @@ use Rattle.rate.specs.Calls.{Call, Silence, fresh_controller, after}
 use Rattle.ladder.specs.Airs.{floor_time, wide_air, narrow_air}
 
 -- whether a list has a number
-abbrev pub has : List ℕ → ℕ → Bool
-has [] r = false
-has (x ∷ xs) r = eqb x r || has xs r
+abbrev pub lists : List ℕ → ℕ → Bool
+lists [] r = false
+lists (x ∷ xs) r = eqb x r || lists xs r
 
 -- n rungs that are all equal
 abbrev pub equal_rungs : ℕ → Columns
@@ -29,29 +29,29 @@ equal_rungs n = record {
   floors = 0;
 }
 
-pub data Row : Type 0 where
+pub data PRow : Type 0 where
   -- half(t) = r
-  half_is : Float → Float → Row
+  half_is : Float → Float → PRow
   -- decode_probability(SNR, threshold, slope) = p
-  probability_is : Float → Float → Float → Float → Row
+  probability_is : Float → Float → Float → Float → PRow
   -- decode_probability(SNR, threshold, slope) > p
-  probability_over : Float → Float → Float → Float → Row
+  probability_over : Float → Float → Float → Float → PRow
   -- the table is refused for this cause, whose number is n
-  refused_with : Columns → Refusal → ℕ → Row
+  refused_with : Columns → Refusal → ℕ → PRow
   -- the front has each rung of the table but these
-  front_lacks : Columns → List ℕ → Row
+  front_lacks : Columns → List ℕ → PRow
   -- after these calls the choice is this place
-  place_is : RateController → List Call → ℕ → Row
+  place_is : RateController → List Call → ℕ → PRow
 
-abbrev pub Says : Row → Type 0
+abbrev pub Says : PRow → Type 0
 Says (half_is t r) = half t ≡ r
 Says (probability_is snr threshold slope p) = decode_probability snr threshold slope ≡ p
 Says (probability_over snr threshold slope p) = lt p (decode_probability snr threshold slope) ≡ true
 Says (refused_with c why n) = (table_verdict c ≡ Err why) × (refusal_number why ≡ n)
 Says (place_is k calls n) = (after k calls).state.core.place.0 ≡ n
-Says (front_lacks c gone) = front_of_columns c ≡ select (length c.thresholds) 0 (λ r. not (has gone r))
+Says (front_lacks c gone) = front_of_columns c ≡ select (length c.thresholds) 0 (λ r. not (lists gone r))
 
-abbrev pub Each : List Row → Type 0
+abbrev pub Each : List PRow → Type 0
 Each [] = Unit
 Each (r ∷ rs) = Says r × Each rs
 
@@ -66,8 +66,8 @@ least = f64 0x0020_0000_0000_0000
 abbrev pub f20¼ : Float
 f20¼ = f64 0x4034_4000_0000_0000
 
-abbrev pub rows : List Row
-rows =
+abbrev pub p_rows : List PRow
+p_rows =
     -- "P1 half(0) = 1.0."
     half_is f0 f1 ∷
     -- "P2 half(1) = 0.5."

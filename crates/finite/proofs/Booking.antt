@@ -18,7 +18,7 @@ use Rattle.std.specs.Prelude.{Ok, None, Some}
 use Rattle.limits.proofs.Verdicts.{or_else_lem}
 use Rattle.limits.specs.Readings.{Reading, ok_snr}
 use Rattle.ladder.specs.declared.types.Table.{Table}
-use Rattle.ladder.specs.Types.{row, rung_at, rungs_of, places_of, is_floor}
+use Rattle.ladder.specs.Types.{row, rung_at, rung_count, place_count, is_floor}
 use Rattle.std.proofs.lemmas.Bool.{cond_both}
 use Rattle.std.proofs.lemmas.Float.{T_from_false}
 use Rattle.ladder.proofs.Cases.{pick}
@@ -27,7 +27,7 @@ use Rattle.account.specs.declared.types.Account.{Account}
 use Rattle.account.specs.declared.types.Offsets.{Offsets}
 use Rattle.account.specs.declared.types.State.{State}
 use Rattle.account.specs.State.{no_account}
-use Rattle.account.specs.Price.{chance}
+use Rattle.account.specs.Price.{prior_p}
 use Rattle.rules.specs.declared.types.Frame.{Frame}
 use Rattle.rules.specs.Booking.{at, clamp, moved, offset_step, offsets_from, offsets_at, offsets_after, f12, aged, gained, book_one, book_frame, book, airs, call_air, passed, booked}
 use Rattle.rules.specs.Check.{frame_verdict, first_bad}
@@ -126,7 +126,7 @@ module _ (t : Table) (ts : TableIn t) where
   book_in : (fs : List Frame) (accounts : List Account) → All FrameIn fs → All AccountIn accounts → All AccountIn (book t fs accounts)
   unfolding book
   book_in [] accounts k h = h
-  book_in (f ∷ fs) accounts k h = book_in fs (book_frame (rungs_of t) 0 t f accounts) k.1 (book_frame_in (rungs_of t) 0 f accounts k.0 h)
+  book_in (f ∷ fs) accounts k h = book_in fs (book_frame (rung_count t) 0 t f accounts) k.1 (book_frame_in (rung_count t) 0 f accounts k.0 h)
 
 -- ---- offsets
 clamp_ends : T (number (neg f5)) × T (number f20) × In offsets (neg f5) × In offsets f20
@@ -144,10 +144,10 @@ move_ends = (tt, tt, tt, tt, tt)
 
 module _ (t : Table) (ts : TableIn t) (snr : Float) (hs : In decibels snr) where
   moved_in : (f : Frame) (off : Float) → In offsets off → In offsets (moved t snr f off)
-  unfolding chance
+  unfolding prior_p
   moved_in f off h =
       let r = f.rung.0 in
-      let p = chance t r off snr in
+      let p = prior_p t r off snr in
       let y = p ⊖ cond f.decoded f1 f0 in
       let g = scaled_in t.air.gain surprises surprises y
       (difference_in shares shares surprises p (cond f.decoded f1 f0) (chance_in (row t r).threshold t.air.margin off snr (ts.rows r).threshold ts.margin h hs)
@@ -197,7 +197,7 @@ pub booked_in : (t : Table) → TableIn t → (s : State) (fs : List Frame) → 
 unfolding booked offsets_after
 booked_in t ts s fs k h = record {
   accounts = book_in t ts fs s.accounts k h.accounts;
-  since = passed_in (places_of t) 0 t (call_air fs) s.since (total_in fs f0 k time_ends.2) h.since;
+  since = passed_in (place_count t) 0 t (call_air fs) s.since (total_in fs f0 k time_ends.2) h.since;
   wait = h.wait;
   snr = h.snr;
   echo = h.echo;

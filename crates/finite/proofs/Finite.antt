@@ -22,8 +22,8 @@ use Rattle.ladder.proofs.Entries.{All, all_replicate}
 use Rattle.account.specs.declared.types.Account.{Account}
 use Rattle.account.specs.declared.types.Tariff.{Tariff}
 use Rattle.account.specs.declared.types.State.{State}
-use Rattle.account.specs.State.{no_account, account, time_of}
-use Rattle.account.specs.Price.{wait_seconds}
+use Rattle.account.specs.State.{no_account, account, since_of}
+use Rattle.account.specs.Price.{wait_s}
 use Rattle.account.proofs.FullAir.{TariffSound, bursts_small, IsWait}
 use Rattle.rules.specs.declared.types.Frame.{Frame}
 use Rattle.rules.specs.Echo.{silent, observe_echo}
@@ -158,7 +158,7 @@ account_lies a h = record {
 state_lies : (s : State) → Held s → StateLies s
 state_lies s h = record {
   accounts = λ r. account_lies (account s r) (all_any AccountIn s.accounts r no_account h.accounts no_account_in);
-  times = λ r. lies times (time_of s r) ends.6 (all_any (In times) s.since r f0 h.since zero_time);
+  times = λ r. lies times (since_of s r) ends.6 (all_any (In times) s.since r f0 h.since zero_time);
   waits = λ r. all_any IsWait s.wait r 6 h.wait (omega arith);
   snr = snr_lies s.core.snr h.snr;
   echo = limit_lies s.core.echo h.echo;
@@ -173,7 +173,7 @@ kept_finite k h =
     let p = k.prices in
     let at : (s : State) → Held s → FiniteAt t p s = λ s g. record {
       state = state_lies s g;
-      seconds = λ r. lies times (wait_seconds t p.tariff s r) ends.6 (wait_in t p h.table h.tariff s r g);
+      seconds = λ r. lies times (wait_s t p.tariff s r) ends.6 (wait_in t p h.table h.tariff s r g);
       compared = compared t p s h.table h.tariff g;
     } in
     record {

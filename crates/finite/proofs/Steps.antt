@@ -10,18 +10,18 @@ use Rattle.limits.specs.Values.{ok_db, ok_share}
 use Rattle.limits.specs.Readings.{Reading, ok_snr, ok_limit}
 use Rattle.std.specs.Prelude.{None, Some}
 use Rattle.ladder.specs.declared.types.Table.{Table}
-use Rattle.ladder.specs.Types.{row, rung_at, places_of}
+use Rattle.ladder.specs.Types.{row, rung_at, place_count}
 use Rattle.ladder.proofs.Cases.{pick}
 use Rattle.ladder.proofs.Entries.{All, all_set}
-use Rattle.account.specs.State.{Trying, wait_of, choice, with_time, with_wait, with_trying, with_place, with_snr, with_echo}
+use Rattle.account.specs.State.{Trying, wait_of, choice, with_since, with_wait, with_trying, with_place, with_snr, with_echo}
 use Rattle.account.specs.declared.types.Prices.{Prices}
 use Rattle.account.specs.declared.types.State.{State}
-use Rattle.account.specs.Price.{burst_or, full_air, wait_seconds}
+use Rattle.account.specs.Price.{burst_or, full_air, wait_s}
 use Rattle.account.proofs.FullAir.{IsWait, bursts_small}
 use Rattle.rules.specs.declared.types.Frame.{Frame}
 use Rattle.rules.specs.Lowest.{Best}
-use Rattle.rules.specs.Tries.{Decided, better, judge_try, to_judge, judge_sent, judge_above, place_from, full_wait, won, end_try, own_frames, counted, begins, above, decide_try, decide_at, decide, choose}
-use Rattle.rules.specs.Echo.{out, usable, smooth_snr, smooth_echo, end_if_out, echoed, observe_echo, seed, seed_at, observe_snr}
+use Rattle.rules.specs.Tries.{Decided, better, judge_try, to_judge, judge_if_sent, judge_above, place_from, full_wait, won, end_probe, own_frames, counted, begins, above, decide_try, decide_at, decide, choose}
+use Rattle.rules.specs.Echo.{echo_out, usable, smooth_snr, smooth_echo, end_if_out, echoed, observe_echo, seed, seed_at, observe_snr}
 use Rattle.rules.specs.Booking.{booked}
 use Rattle.rules.specs.Transmission.{judged, inside, observe_frames}
 use Rattle.finite.proofs.Ranges.{Range, ◌to◌, In, ◌⊠◌, scaled, sums, products, scales, sum_in, product_in, scaled_in, counts}
@@ -69,7 +69,7 @@ set_snr s x h k = record { accounts = h.accounts; since = h.since; wait = h.wait
 set_echo : (s : State) (x : Reading) → Held s → T (ok_limit x) → Held (with_echo s x)
 set_echo s x h k = record { accounts = h.accounts; since = h.since; wait = h.wait; snr = h.snr; echo = k; offsets = h.offsets }
 
-set_time : (s : State) (r : ℕ) (x : Float) → Held s → In times x → Held (with_time s r x)
+set_time : (s : State) (r : ℕ) (x : Float) → Held s → In times x → Held (with_since s r x)
 set_time s r x h k = record { accounts = h.accounts; since = all_set (In times) s.since r x h.since (λ g. k); wait = h.wait; snr = h.snr; echo = h.echo; offsets = h.offsets }
 
 set_wait : (s : State) (r w : ℕ) → Held s → IsWait w → Held (with_wait s r w)
@@ -85,10 +85,10 @@ echo_held t p s x snr k h = pick Held (lt snr (neg (f64 0x4018_0000_0000_0000)))
   where
     off : (m : State) (y : Trying) → Held m → Held (end_if_out t m y)
     off m None g = g
-    off m (Some y) g = pick Held (out t m y.rung.0) g g
+    off m (Some y) g = pick Held (echo_out t m y.rung.0) g g
 
     heard : (m : State) → Held m → Held (echoed t p m)
-    heard m g = let z = end_if_out t m m.core.trying in let l = off m m.core.trying g in pick Held (out t z (choice t z)) l l
+    heard m g = let z = end_if_out t m m.core.trying in let l = off m m.core.trying g in pick Held (echo_out t z (choice t z)) l l
 
 pub seed_held : (t : Table) (p : Prices) (s : State) (snr : Float) → T (ok_db snr) → Held s → Held (seed t p s snr)
 unfolding seed
@@ -105,14 +105,14 @@ judge_held t p s r h =
     let w = min 48 (2 * wait_of s r) in
     pick Held (better t p s r) (set_wait s r 6 h (omega arith)) (set_time (with_wait s r w) r f0 (set_wait s r w h (omega arith)) zero_time)
 
-sent_held : (t : Table) (p : Prices) (fs : List Frame) (s : State) (r : ℕ) → Held s → Held (judge_sent t p fs s r)
-unfolding judge_sent
+sent_held : (t : Table) (p : Prices) (fs : List Frame) (s : State) (r : ℕ) → Held s → Held (judge_if_sent t p fs s r)
+unfolding judge_if_sent
 sent_held t p fs s r h = pick Held (to_judge t s fs r) (judge_held t p s r h) h
 
 above_held : (n r : ℕ) (t : Table) (p : Prices) (fs : List Frame) (s : State) → Held s → Held (judge_above n r t p fs s)
 unfolding judge_above
 above_held zero r t p fs s h = h
-above_held (suc n) r t p fs s h = above_held n (suc r) t p fs (judge_sent t p fs s r) (sent_held t p fs s r h)
+above_held (suc n) r t p fs s h = above_held n (suc r) t p fs (judge_if_sent t p fs s r) (sent_held t p fs s r h)
 
 -- a full wait: up to 48 transmissions of up to 1,000 frames
 abbrev full_airs : Range
@@ -123,8 +123,8 @@ unfolding of_bits of_int round mul le
 wait_ends = (tt, tt)
 
 module _ (t : Table) (p : Prices) (ts : TableIn t) (ps : TariffIn p.tariff) where
-  pub wait_in : (s : State) (r : ℕ) → Held s → In times (wait_seconds t p.tariff s r)
-  unfolding wait_seconds full_air
+  pub wait_in : (s : State) (r : ℕ) → Held s → In times (wait_s t p.tariff s r)
+  unfolding wait_s full_air
   wait_in s r h =
       let n = burst_or p.tariff r 1 in
       let x = (row t r).time in
@@ -138,14 +138,14 @@ module _ (t : Table) (p : Prices) (ts : TableIn t) (ps : TariffIn p.tariff) wher
   full_held s h =
       let up = suc s.core.place.0 in
       let r = rung_at t up in
-      pick Held (usable t s up) (set_time s r (wait_seconds t p.tariff s r) h (wait_in s r h)) h
+      pick Held (usable t s up) (set_time s r (wait_s t p.tariff s r) h (wait_in s r h)) h
 
   won_held : (s : State) (r : ℕ) → Held s → Held (won t p s r)
   unfolding won
-  won_held s r h = full_held (with_place s (place_from (places_of t) 0 t r s.core.place.0)) h
+  won_held s r h = full_held (with_place s (place_from (place_count t) 0 t r s.core.place.0)) h
 
-  end_held : (s : State) (r frames : ℕ) → Held s → Held (end_try t p s r frames)
-  unfolding end_try
+  end_held : (s : State) (r frames : ℕ) → Held s → Held (end_probe t p s r frames)
+  unfolding end_probe
   end_held s r frames h =
       let j = judge_held t p s r h in
       pick Held (eqb frames 0) h (pick Held (better t p s r) (won_held (judge_try t p s r) r j) j)

@@ -24,10 +24,10 @@ use Rattle.account.specs.declared.types.Tariff.{Tariff}
 use Rattle.account.specs.declared.types.Prices.{Prices}
 use Rattle.account.specs.declared.types.State.{State}
 use Rattle.account.specs.State.{no_account, account, choice}
-use Rattle.account.specs.Price.{offset, chance_at, prior_of, estimate_of, estimate_at, lossless, own_floor, other_floor, control, burst_or, overhead_of, priced_of, priced_by, priced, value, lossless_price}
+use Rattle.account.specs.Price.{offset, prior_p_at, prior_of, estimate_by, estimate_at, lossless, own_floor, other_floor, control, burst_or, overhead_of, priced_of, priced_by, priced, value, lossless_price}
 use Rattle.account.proofs.FullAir.{bursts_small}
 use Rattle.rules.specs.Echo.{usable}
-use Rattle.rules.specs.Tries.{due, clean_climb, above}
+use Rattle.rules.specs.Tries.{waited, clean_climb, above}
 use Rattle.finite.specs.Finite.{OneTest, most_rate, most_value, Lies, Compared, Alike}
 use Rattle.finite.proofs.Ranges.{Range, ◌to◌, In, bounded, in_by, in_finite, in_number, widen, ◌⊞◌, ◌⊟◌, ◌⊠◌, scaled, holds, sums, differences, products, quotients, scales, sum_in, difference_in, product_in, quotient_in, scaled_in, counts, opposite, one_test}
 use Rattle.finite.proofs.Bounds.{decibels, air_times, account_bytes, account_air, account_frames, capacities, lengths, shares, margins, offsets, RowIn, TableIn, GivenIn, TariffIn, AccountIn, OffsetsIn, Held, all_any}
@@ -47,11 +47,11 @@ chance_ends : T (differences decibels offsets less_offset) × T (differences les
 unfolding of_bits neg sub le
 chance_ends = (tt, tt, tt, tt, tt)
 
-pub chance_in : (threshold margin off snr : Float) → In decibels threshold → In margins margin → In offsets off → In decibels snr → In shares (chance_at threshold margin off snr)
+pub chance_in : (threshold margin off snr : Float) → In decibels threshold → In margins margin → In offsets off → In decibels snr → In shares (prior_p_at threshold margin off snr)
 chance_in threshold margin off snr ht hm ho hs =
     let x = snr ⊖ off in
     let y = difference_in less_offset margins less_margin x margin (difference_in decibels offsets less_offset snr off hs ho chance_ends.0) hm chance_ends.1 in
-    share_in (chance_at threshold margin off snr)
+    share_in (prior_p_at threshold margin off snr)
     (probability_share (x ⊖ margin) threshold f½ (in_number less_margin (x ⊖ margin) chance_ends.2 y) (in_finite decibels threshold chance_ends.3 ht) chance_ends.4)
 
 -- ---- the prior
@@ -65,7 +65,7 @@ prior_ends = (tt, tt)
 prior_in_lem : (a : Row) (margin off : Float) (snr : Reading) → RowIn a → In margins margin → In offsets off → T (ok_snr snr) → In priors (prior_of a margin off snr)
 prior_in_lem a margin off None h hm ho hs = prior_ends.1
 prior_in_lem a margin off (Some snr) h hm ho hs =
-    product_in capacities shares priors (of_nat a.capacity) (chance_at a.threshold margin off snr)
+    product_in capacities shares priors (of_nat a.capacity) (prior_p_at a.threshold margin off snr)
     (counts 0 a.capacity 4096 (omega arith) h.capacity) (chance_in a.threshold margin off snr h.threshold hm ho hs) prior_ends.0
 
 -- ---- the estimate
@@ -89,7 +89,7 @@ estimate_ends : T (scales f2 priors twice_prior) × T (sums account_bytes twice_
 unfolding of_bits of_int round add mul div le
 estimate_ends = (tt, tt, tt, tt, tt)
 
-estimate_in : (a : Account) (prior time : Float) → AccountIn a → In priors prior → In air_times time → In rates (estimate_of a prior time)
+estimate_in : (a : Account) (prior time : Float) → AccountIn a → In priors prior → In air_times time → In rates (estimate_by a prior time)
 estimate_in a prior time h hp ht =
     quotient_in delivered spent rates (a.bytes ⊕ f2 ⊗ prior) (a.air ⊕ f2 ⊗ time)
     (sum_in account_bytes twice_prior delivered a.bytes (f2 ⊗ prior) h.bytes (scaled_in f2 priors twice_prior prior hp estimate_ends.0) estimate_ends.1)
@@ -226,7 +226,7 @@ module _ (t : Table) (p : Prices) (s : State) (ts : TableIn t) (ps : TariffIn p.
         candidates = λ i.
             let x = (account s (rung_at t i)).frames in
             ap (λ (b : Bool). usable t s i && b) (neither (leb i here) (ltb here i) (lt f2 x) (le x f2) (at_or_below i here) (frames_test (rung_at t i)));
-        beginnings = ap (λ (b : Bool). usable t s (suc here) && b && (due t p s (above t s) || clean_climb t p s (above t s))) (price_test (above t s) (choice t s));
+        beginnings = ap (λ (b : Bool). usable t s (suc here) && b && (waited t p s (above t s) || clean_climb t p s (above t s))) (price_test (above t s) (choice t s));
       }
 
 pub compared : (t : Table) (p : Prices) (s : State) → TableIn t → TariffIn p.tariff → Held s → (z : State) → Alike s z → Compared t p z

@@ -13,12 +13,12 @@ use Rattle.account.specs.declared.types.Account.{Account}
 use Rattle.account.specs.declared.types.Tariff.{Tariff}
 use Rattle.account.specs.declared.types.Prices.{Prices}
 use Rattle.account.specs.declared.types.State.{State}
-use Rattle.account.specs.State.{account, time_of, wait_of, choice}
-use Rattle.account.specs.Price.{burst_or, estimate, estimate_at, lossless, priced, value, lossless_price, wait_seconds}
+use Rattle.account.specs.State.{account, since_of, wait_of, choice}
+use Rattle.account.specs.Price.{burst_or, estimate, estimate_at, lossless, priced, value, lossless_price, wait_s}
 use Rattle.rules.specs.declared.types.Frame.{Frame}
 use Rattle.rules.specs.Echo.{usable, observe_snr}
 use Rattle.rules.specs.Booking.{booked}
-use Rattle.rules.specs.Tries.{judge_above, candidate, due, clean_climb, above, begins}
+use Rattle.rules.specs.Tries.{judge_above, candidate, waited, clean_climb, above, begins}
 use Rattle.rules.specs.Transmission.{inside}
 use Rattle.rate.specs.declared.types.RateController.{RateController}
 use Rattle.rate.specs.Calls.{Call, Frames, verdict, after}
@@ -83,7 +83,7 @@ pub record AccountLies (a : Account) : Type 0 where
 
 pub record StateLies (s : State) : Type 0 where
   pub accounts : (r : ℕ) → AccountLies (account s r)
-  pub times : (r : ℕ) → Lies f0 longest (time_of s r)
+  pub times : (r : ℕ) → Lies f0 longest (since_of s r)
   pub waits : (r : ℕ) → wait_of s r ≤ 48
   pub snr : LiesIn (neg f200) f200 s.core.snr
   pub echo : LiesIn f0 f1 s.core.echo
@@ -103,7 +103,7 @@ rust_candidate t s i = usable t s i && not (ltb s.core.place.0 i && le (account 
 -- and begins no try where the lossless price of the rung above is <= the choice's value
 abbrev pub rust_begins : Table → Prices → State → Bool
 rust_begins t p s =
-    usable t s (suc s.core.place.0) && not (le (lossless_price t p (above t s)) (value t p s (choice t s))) && (due t p s (above t s) || clean_climb t p s (above t s))
+    usable t s (suc s.core.place.0) && not (le (lossless_price t p (above t s)) (value t p s (choice t s))) && (waited t p s (above t s) || clean_climb t p s (above t s))
 
 pub record Compared (t : Table) (p : Prices) (s : State) : Type 0 where
   pub estimates : (r : ℕ) → Lies f0 most_rate (estimate t s r)
@@ -130,7 +130,7 @@ pub record Alike (s z : State) : Type 0 where
 -- of one state: its numbers, its waits in seconds, and all that is compared
 pub record FiniteAt (t : Table) (p : Prices) (s : State) : Type 0 where
   pub state : StateLies s
-  pub seconds : (r : ℕ) → Lies f0 longest (wait_seconds t p.tariff s r)
+  pub seconds : (r : ℕ) → Lies f0 longest (wait_s t p.tariff s r)
   pub compared : (z : State) → Alike s z → Compared t p z
 
 pub record Finite (k : RateController) : Type 0 where

@@ -12,7 +12,7 @@ use Rattle.float.specs.Numbers.{f1}
 use Rattle.limits.specs.Values.{ok_air}
 use Rattle.std.proofs.Common.{Ok}
 use Rattle.ladder.specs.Lists.{every}
-use Rattle.ladder.specs.Types.{Row, Table, rung, row, no_row, rungs_of, places_of, rung_at}
+use Rattle.ladder.specs.Types.{Row, Table, rung, row, no_row, rung_count, place_count, rung_at}
 use Rattle.ladder.specs.Front.{front_rungs}
 use Rattle.ladder.specs.Tables.{Columns, table_verdict, front_of_columns, row_of, rows_of, table_of, for_air}
 use Rattle.ladder.proofs.Accepted.{accepted_columns, table_sizes, table_lengths, table_values}
@@ -22,9 +22,9 @@ use Rattle.ladder.proofs.Ascending.{front_below, front_once, front_get}
 
 -- what the laws of the controller ask of its table
 pub record TableSound (t : Table) : Type 0 where
-  pub on_table : (i : ℕ) → i < places_of t → rung_at t i < rungs_of t
-  pub once : (i j : ℕ) → i < places_of t → j < places_of t → rung_at t i ≡ rung_at t j → i ≡ j
-  pub times : (r : ℕ) → r < rungs_of t → T (ok_air (row t r).time)
+  pub on_table : (i : ℕ) → i < place_count t → rung_at t i < rung_count t
+  pub once : (i j : ℕ) → i < place_count t → j < place_count t → rung_at t i ≡ rung_at t j → i ≡ j
+  pub times : (r : ℕ) → r < rung_count t → T (ok_air (row t r).time)
 
 -- ---- the table that is made
 -- a rung of the table has the frame time of its column

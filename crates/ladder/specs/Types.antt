@@ -22,15 +22,15 @@ abbrev pub row : Table → ℕ → Row
 row t r = get_or t.rows r no_row
 
 -- an array has 32 entries, so no more than 32 rungs and 32 places are in use, whatever the counts say
-abbrev pub rungs_of : Table → ℕ
-rungs_of t = min 32 t.air.count
+abbrev pub rung_count : Table → ℕ
+rung_count t = min 32 t.air.count
 
-abbrev pub places_of : Table → ℕ
-places_of t = min 32 t.front.count
+abbrev pub place_count : Table → ℕ
+place_count t = min 32 t.front.count
 
 -- whether a rung is in the table
 abbrev pub in_table : Table → ℕ → Bool
-in_table t r = ltb r (rungs_of t)
+in_table t r = ltb r (rung_count t)
 
 -- the rung at a place, both by their numbers
 abbrev pub rung_at : Table → ℕ → ℕ

@@ -78,7 +78,7 @@ pub struct Table {
 }
 
 impl Table {
-    ghost use Rattle.ladder.specs.Types.{row, rung_at, rungs_of, places_of, in_table, is_floor};
+    ghost use Rattle.ladder.specs.Types.{row, rung_at, rung_count, place_count, in_table, is_floor};
 
     // (A read with a default is three calls of the library's, here, below and in the columns. A function of them, handed the list, the number and the
     // default, would be no shorter where it is called.)
@@ -101,33 +101,33 @@ impl Table {
     }
 
     // How many rungs are in use: no more than an array has entries, whatever the count says.
-    pub fn rungs(&self) -> u32
-        ensures { result ≡ rungs_of self.now }
+    pub fn rung_count(&self) -> u32
+        ensures { result ≡ rung_count self.now }
     {
         self.air.count.min(32)
     }
 
     // How many places are in use.
-    pub fn places(&self) -> u32
-        ensures { result ≡ places_of self.now }
+    pub fn place_count(&self) -> u32
+        ensures { result ≡ place_count self.now }
     {
         self.front.count.min(32)
     }
 
     // The rungs that are on the front, by place.
     pub fn front(&self) -> &[Rung]
-        ensures rungs { result.now ≡ take (places_of self.now) self.now.front.rungs }
-        ensures count { length result.now ≡ places_of self.now }
+        ensures rungs { result.now ≡ take (place_count self.now) self.now.front.rungs }
+        ensures count { length result.now ≡ place_count self.now }
     {
         self.front.rungs()
     }
 
-    // (The next two hold a rung's number against a count: `r < Rung(self.rungs())` would make a rung of the count, and be no shorter.)
+    // (The next two hold a rung's number against a count: `r < Rung(self.rung_count())` would make a rung of the count, and be no shorter.)
     // Whether a rung is in the table.
     pub fn has(&self, r: Rung) -> bool
         ensures { result ≡ in_table self.now r.0 }
     {
-        r.0 < self.rungs()
+        r.0 < self.rung_count()
     }
 
     // Whether a rung is floor; the others are OFDM.

@@ -6,7 +6,7 @@ use Rattle.limits.specs.Refusals.{refusal_number}
 use Rattle.limits.specs.declared.refusal.Refusal.{Refusal}
 use Rattle.question.specs.Over.{over}
 use Rattle.question.proofs.Over.{Over, put, Partly, next_length, partly_first, partly_next, partly_end, partly_last, last_room, piece_fits, piece_room}
-use Rattle.paper.specs.Lines.{Number, Word, decimal, ended, row_of}
+use Rattle.paper.specs.Lines.{Number, Word, decimal, ended, cells_bytes}
 use Rattle.paper.specs.Sheet.{Line, Outcome, tried_cell, line_bytes, refused_bytes}
 use Rattle.paper.specs.bridges.Said.{flag_cells, text_from}
 use Rattle.paper.proofs.Pieces.{row_two, length_refused, ended_is, ended_length, choice_next, tried_next, flags_next, refused_next}
@@ -47,24 +47,24 @@ module _ (event : ℕ) (why : Refusal) (out : List ℕ) (fits : length (line_byt
 module _ (event : ℕ) (o : Outcome) (out : List ℕ) (fits : length (line_bytes event (Ok o)) ≤ length out) where
   -- the slice after the event
   module _ {k : ℕ} {new : List ℕ} (wrote : k ≡ length (ended (Number event) 32)) (left : new ≡ over (ended (Number event) 32) out) where
-    pub one : Partly (line_bytes event (Ok o)) (row_of (Number o.choice.0 ∷ tried_cell o.tried ∷ flag_cells o)) out k new
+    pub one : Partly (line_bytes event (Ok o)) (cells_bytes (Number o.choice.0 ∷ tried_cell o.tried ∷ flag_cells o)) out k new
     one = partly_first (choice_next event o) out new k (omega (arith, fits, next_length (choice_next event o))) wrote left
 
     -- after the choice
     module _ {r : ℕ} {part : List ℕ} (more : r ≡ length (ended (Number o.choice.0) 32)) (then : part ≡ over (ended (Number o.choice.0) 32) (lent k new)) where
-      pub two : Partly (line_bytes event (Ok o)) (row_of (tried_cell o.tried ∷ flag_cells o)) out (k + r) (put_back k new part)
+      pub two : Partly (line_bytes event (Ok o)) (cells_bytes (tried_cell o.tried ∷ flag_cells o)) out (k + r) (put_back k new part)
       two = partly_next one (tried_next event o) (piece_fits one fits (tried_next event o)) part r more then
 
       -- after the tried rung
       module _ {s : ℕ} {last : List ℕ} (still : s ≡ length (ended (tried_cell o.tried) 32)) (now : last ≡ over (ended (tried_cell o.tried) 32) (lent (k + r) (put_back k new part))) where
-        pub three : Partly (line_bytes event (Ok o)) (row_of (flag_cells o)) out (k + r + s) (put_back (k + r) (put_back k new part) last)
+        pub three : Partly (line_bytes event (Ok o)) (cells_bytes (flag_cells o)) out (k + r + s) (put_back (k + r) (put_back k new part) last)
         three = partly_next two (flags_next event o) (piece_fits two fits (flags_next event o)) last s still now
 
         -- the flags, which are the last piece
-        pub flags_room : length (row_of (flag_cells o)) ≤ length (lent (k + r + s) (put_back (k + r) (put_back k new part) last))
+        pub flags_room : length (cells_bytes (flag_cells o)) ≤ length (lent (k + r + s) (put_back (k + r) (put_back k new part) last))
         flags_room = last_room three fits
 
-        pub flags_whole : (end : List ℕ) → end ≡ over (row_of (flag_cells o)) (lent (k + r + s) (put_back (k + r) (put_back k new part) last)) → put_back (k + r + s) (put_back (k + r) (put_back k new part) last) end ≡ over (line_bytes event (Ok o)) out
+        pub flags_whole : (end : List ℕ) → end ≡ over (cells_bytes (flag_cells o)) (lent (k + r + s) (put_back (k + r) (put_back k new part) last)) → put_back (k + r + s) (put_back (k + r) (put_back k new part) last) end ≡ over (line_bytes event (Ok o)) out
         flags_whole end f = (partly_last three end _ fits refl f).1
 
 -- ---- of a sheet: the lines below the i-th are written, and e is the number of the next; d is any default

@@ -6,7 +6,7 @@ use lib.ListN.{length-append}
 use Rattle.limits.specs.Refusals.{refusal_number}
 use Rattle.limits.specs.declared.refusal.Refusal.{Refusal}
 use Rattle.question.proofs.Over.{Next, next_length}
-use Rattle.paper.specs.Lines.{Cell, Number, Word, digits, decimal, cell_bytes, ended, row_of}
+use Rattle.paper.specs.Lines.{Cell, Number, Word, digits, decimal, cell_bytes, ended, cells_bytes}
 use Rattle.paper.specs.Sheet.{Outcome, tried_cell, flag_cell, line_bytes, refused_bytes}
 use Rattle.paper.specs.bridges.Said.{flag_cells}
 
@@ -19,13 +19,13 @@ unfolding ended
 ended_length c e = length-append (cell_bytes c) (e ∷ [])
 
 -- the first of two fields or more
-pub row_next : (c d : Cell) (cs : List Cell) → Next (row_of (c ∷ d ∷ cs)) (ended c 32) (row_of (d ∷ cs))
-unfolding row_of
+pub row_next : (c d : Cell) (cs : List Cell) → Next (cells_bytes (c ∷ d ∷ cs)) (ended c 32) (cells_bytes (d ∷ cs))
+unfolding cells_bytes
 row_next c d cs = record { is = refl }
 
 -- two fields are a line
-pub row_two : (c d : Cell) → Next (row_of (c ∷ d ∷ [])) (ended c 32) (ended d 10)
-unfolding row_of
+pub row_two : (c d : Cell) → Next (cells_bytes (c ∷ d ∷ [])) (ended c 32) (ended d 10)
+unfolding cells_bytes
 row_two c d = record { is = refl }
 
 -- ---- the flags: a digit each
@@ -34,11 +34,11 @@ unfolding decimal digits
 flag_digit true = refl
 flag_digit false = refl
 
-pub flags_row : (o : Outcome) → row_of (flag_cells o) ≡ cond o.ofdm_refused 49 48 ∷ 32 ∷ cond o.ended 49 48 ∷ 32 ∷ cond o.begun 49 48 ∷ 10 ∷ []
-unfolding row_of ended
+pub flags_row : (o : Outcome) → cells_bytes (flag_cells o) ≡ cond o.ofdm_refused 49 48 ∷ 32 ∷ cond o.ended 49 48 ∷ 32 ∷ cond o.begun 49 48 ∷ 10 ∷ []
+unfolding cells_bytes ended
 flags_row o = rw (flag_digit o.ofdm_refused, flag_digit o.ended, flag_digit o.begun) refl
 
-pub flags_length : (o : Outcome) → length (row_of (flag_cells o)) ≡ 6
+pub flags_length : (o : Outcome) → length (cells_bytes (flag_cells o)) ≡ 6
 flags_length o = ap length (flags_row o)
 
 -- ---- a line, from its second field on
@@ -47,19 +47,19 @@ unfolding line_bytes refused_bytes
 refused_next event why = row_next (Number event) Word (Number (refusal_number why) ∷ [])
 
 module _ (event : ℕ) (o : Outcome) where
-  pub choice_next : Next (line_bytes event (Ok o)) (ended (Number event) 32) (row_of (Number o.choice.0 ∷ tried_cell o.tried ∷ flag_cells o))
+  pub choice_next : Next (line_bytes event (Ok o)) (ended (Number event) 32) (cells_bytes (Number o.choice.0 ∷ tried_cell o.tried ∷ flag_cells o))
   unfolding line_bytes
   choice_next = row_next (Number event) (Number o.choice.0) (tried_cell o.tried ∷ flag_cells o)
 
-  pub tried_next : Next (row_of (Number o.choice.0 ∷ tried_cell o.tried ∷ flag_cells o)) (ended (Number o.choice.0) 32) (row_of (tried_cell o.tried ∷ flag_cells o))
+  pub tried_next : Next (cells_bytes (Number o.choice.0 ∷ tried_cell o.tried ∷ flag_cells o)) (ended (Number o.choice.0) 32) (cells_bytes (tried_cell o.tried ∷ flag_cells o))
   tried_next = row_next (Number o.choice.0) (tried_cell o.tried) (flag_cells o)
 
-  pub flags_next : Next (row_of (tried_cell o.tried ∷ flag_cells o)) (ended (tried_cell o.tried) 32) (row_of (flag_cells o))
+  pub flags_next : Next (cells_bytes (tried_cell o.tried ∷ flag_cells o)) (ended (tried_cell o.tried) 32) (cells_bytes (flag_cells o))
   flags_next = row_next (tried_cell o.tried) (flag_cell o.ofdm_refused) (flag_cell o.ended ∷ flag_cell o.begun ∷ [])
 
 -- ---- lengths
 pub length_refused : (why : Refusal) → length (refused_bytes why) ≡ 9 + length (decimal (refusal_number why))
-unfolding refused_bytes row_of ended
+unfolding refused_bytes cells_bytes ended
 length_refused why = omega (arith, length-append (decimal (refusal_number why)) (10 ∷ []))
 
 pub refused_row : (event : ℕ) (why : Refusal) → length (line_bytes event (Err why)) ≡ length (decimal event) + 1 + length (refused_bytes why)

@@ -10,7 +10,7 @@ use Rattle.limits.specs.declared.refusal.Refusal.{Refusal}
 use Rattle.limits.specs.declared.refusal.Refusal.TheVariants.{ColumnSize, ColumnsDiffer, TableValue, FloorCount, EmptyFront, UnknownRung, TooManyFrames, OutsideLimits, TooManyBursts, FileHeader, FilePairs, FileBody, SheetRoom, AnswerCount}
 use Rattle.limits.proofs.Verdicts.{or_else_lem, unless_not}
 use Rattle.question.specs.File.{file_verdict}
-use Rattle.paper.specs.Lines.{digits, decimal, ended, row_of}
+use Rattle.paper.specs.Lines.{digits, decimal, ended, cells_bytes}
 use Rattle.question.specs.Over.{over}
 use Rattle.paper.specs.Sheet.{refused_bytes, sheet_of, sheet_verdict, sheet_by, sheet_answer, left_by, sheet_left, printed_by, printed, fitting, printed_in}
 
@@ -61,7 +61,7 @@ module _ (s out new : List ℕ) (left : new ≡ sheet_left s out) where
 
 -- ---- the line of a refused file is short
 short_line : (why : Refusal) → length (refused_bytes why) ≤ 11
-unfolding refused_bytes row_of ended decimal digits
+unfolding refused_bytes cells_bytes ended decimal digits
 short_line ColumnSize = omega arith
 short_line ColumnsDiffer = omega arith
 short_line TableValue = omega arith

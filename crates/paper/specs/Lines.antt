@@ -27,7 +27,7 @@ unfoldable pub ended : Cell → ℕ → List ℕ
 ended c end = cell_bytes c ++ (end ∷ [])
 
 -- "parted by one space; each line ends in LF"
-unfoldable pub row_of : List Cell → List ℕ
-row_of [] = []
-row_of (c ∷ []) = ended c 10
-row_of (c ∷ d ∷ cs) = ended c 32 ++ row_of (d ∷ cs)
+unfoldable pub cells_bytes : List Cell → List ℕ
+cells_bytes [] = []
+cells_bytes (c ∷ []) = ended c 10
+cells_bytes (c ∷ d ∷ cs) = ended c 32 ++ cells_bytes (d ∷ cs)

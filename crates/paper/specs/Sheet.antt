@@ -12,7 +12,7 @@ use Rattle.rate.specs.Reads.{choice_of, probing_of, ofdm_refused}
 use Rattle.question.specs.Body.{call_of}
 use Rattle.question.specs.File.{event_count, air, body_at, file_verdict}
 use Rattle.question.specs.Start.{fresh_for}
-use Rattle.paper.specs.Lines.{Cell, Number, Dash, Word, row_of}
+use Rattle.paper.specs.Lines.{Cell, Number, Dash, Word, cells_bytes}
 use Rattle.question.specs.Over.{over}
 pub use Rattle.paper.specs.declared.types.Outcome.{Outcome}
 pub use Rattle.paper.specs.declared.types.Score.{Score}
@@ -53,14 +53,14 @@ cells_of event (Ok o) = Number event ∷ Number o.choice.0 ∷ tried_cell o.trie
 cells_of event (Err why) = Number event ∷ Word ∷ Number (refusal_number why) ∷ []
 
 unfoldable pub line_bytes : ℕ → Line → List ℕ
-line_bytes event l = row_of (cells_of event l)
+line_bytes event l = cells_bytes (cells_of event l)
 
 -- "A refused file prints one line, `refused` and the number."
 abbrev pub refused_cells : Refusal → List Cell
 refused_cells why = Word ∷ Number (refusal_number why) ∷ []
 
 unfoldable pub refused_bytes : Refusal → List ℕ
-refused_bytes why = row_of (refused_cells why)
+refused_bytes why = cells_bytes (refused_cells why)
 
 -- ---- the sheet
 -- "Each line goes after the bytes already written": the lines of the calls, the first of which is event e, each on what the last left

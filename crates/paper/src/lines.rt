@@ -2,7 +2,7 @@
 // already written, into the part of the slice that is lent from there. The writers return how many bytes they took; why they do is said in `text`.
 ghost use Rattle.std.specs.Prelude.{◌≡◌, ◌≤◌, length, if◌then◌else◌, Ok, Err};
 ghost use Rattle.question.specs.Over.{over};
-ghost use Rattle.paper.specs.Lines.{cell_bytes, ended, row_of};
+ghost use Rattle.paper.specs.Lines.{cell_bytes, ended, cells_bytes};
 ghost use Rattle.paper.specs.Sheet.{tried_cell, line_bytes, refused_bytes};
 ghost use Rattle.paper.specs.bridges.Said.{flag_cells};
 
@@ -35,9 +35,9 @@ fn digit(flag: bool) -> u8
 // The three flags that end the line of an answered event.
 #[tactic(auto, using(crate::proofs::Pieces::flags_row))]
 fn write_flags(out: &mut [u8], o: Outcome) -> usize
-    requires { length (row_of (flag_cells o)) ≤ length out.old }
-    ensures value { result ≡ length (row_of (flag_cells o)) }
-    ensures out_after { out.new ≡ over (row_of (flag_cells o)) out.old }
+    requires { length (cells_bytes (flag_cells o)) ≤ length out.old }
+    ensures value { result ≡ length (cells_bytes (flag_cells o)) }
+    ensures out_after { out.new ≡ over (cells_bytes (flag_cells o)) out.old }
 {
     let flags = [
         digit(o.ofdm_refused),

@@ -16,7 +16,7 @@ use Rattle.std.specs.List.{list_all}
 use Rattle.ladder.specs.Lists.{every, tabulate}
 use Rattle.limits.specs.Values.{ok_burst}
 use Rattle.rules.specs.declared.types.Frame.{Frame}
-use Rattle.question.specs.Bytes.{byte, le16, le32, le64, float}
+use Rattle.question.specs.Bytes.{byte, le16, le32, le64, le_f64}
 use Rattle.question.specs.Body.{all_from, frame_count, frame_bytes, ok_flags, frame_of, frame_at, frames_in, no_frame, burst_count, burst_at, bursts_in, first_of}
 use Rattle.question.proofs.Over.{over_filled}
 use Rattle.question.proofs.Chunks.{chunk, first_chunks_all}
@@ -37,8 +37,8 @@ pub le32_part : (n k : ℕ) (s : List ℕ) → k + 3 < n → le32 (drop k (take 
 unfolding le32
 le32_part n k s h = rw (byte_part n k 0 s (omega arith), byte_part n k 1 s (omega arith), byte_part n k 2 s (omega arith), byte_part n k 3 s (omega arith)) refl
 
-float_part : (n k : ℕ) (s : List ℕ) → k + 7 < n → float (drop k (take n s)) ≡ float (drop k s)
-unfolding float le64
+float_part : (n k : ℕ) (s : List ℕ) → k + 7 < n → le_f64 (drop k (take n s)) ≡ le_f64 (drop k s)
+unfolding le_f64 le64
 float_part n k s h = rw (drop-drop 4 k (take n s), drop-drop 4 k s, le32_part n k s (omega arith), le32_part n (k + 4) s (omega arith)) refl
 
 frame_part : (s : List ℕ) → frame_of (take 12 s) ≡ frame_of s

@@ -5,7 +5,7 @@ use Rattle.ladder.specs.Lists.{tabulate}
 use Rattle.ladder.specs.Types.{rung}
 use Rattle.rules.specs.declared.types.Frame.{Frame}
 use Rattle.rate.specs.Calls.{Call, Frames, Echo, Silence, Snr, Seed, Price, Family}
-use Rattle.question.specs.Bytes.{byte, le16, le32, float, ok_reading, reading_of}
+use Rattle.question.specs.Bytes.{byte, le16, le32, le_f64, ok_reading, reading_of}
 use Rattle.question.specs.Over.{over}
 
 -- whether each of the n numbers from i on passes
@@ -29,8 +29,8 @@ frame_bytes b i = drop (10 + 12 * i) b
 unfoldable pub ok_flags : List ℕ → ℕ → Bool
 ok_flags b i = ltb (byte (frame_bytes b i) 1) 8
 
-unfoldable pub ok_frames : List ℕ → Bool
-ok_frames b = leb 10 (length b) && eqb ((length b - 10) % 12) 0 && ok_reading (drop 1 b) && all_from (frame_count b) 0 (ok_flags b)
+unfoldable pub frames_form : List ℕ → Bool
+frames_form b = leb 10 (length b) && eqb ((length b - 10) % 12) 0 && ok_reading (drop 1 b) && all_from (frame_count b) 0 (ok_flags b)
 
 -- "rung u8, flags u8 (1 detected, 2 decoded, 4 combined), capacity u16, air f64"
 unfoldable pub frame_of : List ℕ → Frame
@@ -40,7 +40,7 @@ frame_of s = record {
   decoded = eqb (byte s 1 / 2 % 2) 1;
   combined = eqb (byte s 1 / 4 % 2) 1;
   capacity = le16 (drop 2 s);
-  air = float (drop 4 s);
+  air = le_f64 (drop 4 s);
 }
 
 unfoldable pub frame_at : List ℕ → ℕ → Frame
@@ -50,24 +50,24 @@ unfoldable pub frames_in : List ℕ → List Frame
 frames_in b = tabulate (frame_count b) 0 (frame_at b)
 
 -- ---- "2 echo: share reading, SNR f64."
-unfoldable pub ok_echo : List ℕ → Bool
-ok_echo b = eqb (length b) 18 && ok_reading (drop 1 b)
+unfoldable pub echo_form : List ℕ → Bool
+echo_form b = eqb (length b) 18 && ok_reading (drop 1 b)
 
 -- ---- "3 silence: u32."
-abbrev pub ok_silence : List ℕ → Bool
-ok_silence b = eqb (length b) 5
+abbrev pub silence_form : List ℕ → Bool
+silence_form b = eqb (length b) 5
 
 -- ---- "4 SNR reading."
-unfoldable pub ok_snr : List ℕ → Bool
-ok_snr b = eqb (length b) 10 && ok_reading (drop 1 b)
+unfoldable pub snr_form : List ℕ → Bool
+snr_form b = eqb (length b) 10 && ok_reading (drop 1 b)
 
 -- ---- "5 families: own and other, a byte each, 1 floor, 0 ordinary."
-unfoldable pub ok_families : List ℕ → Bool
-ok_families b = eqb (length b) 3 && leb (byte b 1) 1 && leb (byte b 2) 1
+unfoldable pub families_form : List ℕ → Bool
+families_form b = eqb (length b) 3 && leb (byte b 1) 1 && leb (byte b 2) 1
 
 -- ---- "6 prices: floor, ordinary, gap f64; u16 bursts."
-unfoldable pub ok_prices : List ℕ → Bool
-ok_prices b = leb 25 (length b) && eqb ((length b - 25) % 2) 0
+unfoldable pub prices_form : List ℕ → Bool
+prices_form b = leb 25 (length b) && eqb ((length b - 25) % 2) 0
 
 abbrev pub burst_count : List ℕ → ℕ
 burst_count b = (length b - 25) / 2
@@ -79,30 +79,30 @@ unfoldable pub bursts_in : List ℕ → List ℕ
 bursts_in b = tabulate (burst_count b) 0 (burst_at b)
 
 -- ---- "7 seed: f64."
-abbrev pub ok_seed : List ℕ → Bool
-ok_seed b = eqb (length b) 9
+abbrev pub seed_form : List ℕ → Bool
+seed_form b = eqb (length b) 9
 
 -- 12: "a body breaks its kind's form"; "Any other kind, flag, mark byte or body length: 12."
 unfoldable pub ok_body : List ℕ → Bool
 ok_body b =
-    cond (eqb (kind b) 1) (ok_frames b)
-    (cond (eqb (kind b) 2) (ok_echo b)
-    (cond (eqb (kind b) 3) (ok_silence b)
-    (cond (eqb (kind b) 4) (ok_snr b)
-    (cond (eqb (kind b) 5) (ok_families b)
-    (cond (eqb (kind b) 6) (ok_prices b)
-    (eqb (kind b) 7 && ok_seed b))))))
+    cond (eqb (kind b) 1) (frames_form b)
+    (cond (eqb (kind b) 2) (echo_form b)
+    (cond (eqb (kind b) 3) (silence_form b)
+    (cond (eqb (kind b) 4) (snr_form b)
+    (cond (eqb (kind b) 5) (families_form b)
+    (cond (eqb (kind b) 6) (prices_form b)
+    (eqb (kind b) 7 && seed_form b))))))
 
 -- the call that a body of the right form stands for (one of another form is never asked for its call)
 unfoldable pub call_of : List ℕ → Call
 call_of b =
     cond (eqb (kind b) 1) (Frames (frames_in b) (reading_of (drop 1 b)))
-    (cond (eqb (kind b) 2) (Echo (reading_of (drop 1 b)) (float (drop 10 b)))
+    (cond (eqb (kind b) 2) (Echo (reading_of (drop 1 b)) (le_f64 (drop 10 b)))
     (cond (eqb (kind b) 3) (Silence (le32 (drop 1 b)))
     (cond (eqb (kind b) 4) (Snr (reading_of (drop 1 b)))
     (cond (eqb (kind b) 5) (Family (eqb (byte b 1) 1) (eqb (byte b 2) 1))
-    (cond (eqb (kind b) 6) (Price (float (drop 1 b)) (float (drop 9 b)) (float (drop 17 b)) (bursts_in b))
-    (Seed (float (drop 1 b))))))))
+    (cond (eqb (kind b) 6) (Price (le_f64 (drop 1 b)) (le_f64 (drop 9 b)) (le_f64 (drop 17 b)) (bursts_in b))
+    (Seed (le_f64 (drop 1 b))))))))
 
 -- ---- the two lists as arrays
 -- what stands in an array past the frames

@@ -19,12 +19,12 @@ unfoldable pub le64 : List ℕ → ℕ
 le64 s = le32 s + le32 (drop 4 s) * 2 ^ 32
 
 -- "f64 bits": every pattern is a value, a NaN's the NaN
-unfoldable pub float : List ℕ → Float
-float s = f64 (le64 s)
+unfoldable pub le_f64 : List ℕ → Float
+le_f64 s = f64 (le64 s)
 
 -- "A reading is one byte 0/1 and f64 bits, zero if missing.": whether nine bytes have that form, and the reading
 unfoldable pub ok_reading : List ℕ → Bool
 ok_reading s = eqb (byte s 0) 1 || eqb (byte s 0) 0 && eqb (le64 (drop 1 s)) 0
 
 unfoldable pub reading_of : List ℕ → Reading
-reading_of s = cond (eqb (byte s 0) 1) (Some (float (drop 1 s))) None
+reading_of s = cond (eqb (byte s 0) 1) (Some (le_f64 (drop 1 s))) None

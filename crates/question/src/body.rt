@@ -2,7 +2,7 @@
 ghost use Rattle.std.specs.Prelude.{◌≡◌, slice_index, slice_index_or};
 ghost use Rattle.ladder.specs.Lists.{every};
 ghost use Rattle.limits.specs.Values.{ok_burst};
-ghost use Rattle.question.specs.Body.{all_from, frame_count, ok_flags, ok_frames, frame_of, frames_in, no_frame, ok_echo, ok_silence, ok_snr, ok_families, ok_prices, burst_count, bursts_in, ok_seed, ok_body, first_of};
+ghost use Rattle.question.specs.Body.{all_from, frame_count, ok_flags, frames_form, frame_of, frames_in, no_frame, echo_form, silence_form, snr_form, families_form, prices_form, burst_count, bursts_in, seed_form, ok_body, first_of};
 
 use crate::bytes::{byte_at, f64_of, ok_reading, past, u16_of};
 use crate::types::Kind;
@@ -29,56 +29,56 @@ fn ok_flags(body: &[u8]) -> bool
 }
 
 // Kind 1: a reading, whole frames, known flags.
-#[tactic(auto, unfolding(crate::specs::Body::ok_frames))]
-fn ok_frames(body: &[u8]) -> bool
-    ensures { result ≡ ok_frames body.now }
+#[tactic(auto, unfolding(crate::specs::Body::frames_form))]
+fn frames_form(body: &[u8]) -> bool
+    ensures { result ≡ frames_form body.now }
 {
     body.len() >= 10 && (body.len() - 10) % 12 == 0 && ok_reading(past(body, 1)) && ok_flags(body)
 }
 
 // Kind 2. (The tests of kinds 2 and 4, and of 3 and 7, differ in the body's length. With that as a parameter, the four lengths would stand in
 // `ok_body`, away from the rest of a kind's form, which is here.)
-#[tactic(auto, unfolding(crate::specs::Body::ok_echo))]
-fn ok_echo(body: &[u8]) -> bool
-    ensures { result ≡ ok_echo body.now }
+#[tactic(auto, unfolding(crate::specs::Body::echo_form))]
+fn echo_form(body: &[u8]) -> bool
+    ensures { result ≡ echo_form body.now }
 {
     body.len() == 18 && ok_reading(past(body, 1))
 }
 
 // Kind 3.
-fn ok_silence(body: &[u8]) -> bool
-    ensures { result ≡ ok_silence body.now }
+fn silence_form(body: &[u8]) -> bool
+    ensures { result ≡ silence_form body.now }
 {
     body.len() == 5
 }
 
 // Kind 4.
-#[tactic(auto, unfolding(crate::specs::Body::ok_snr))]
-fn ok_snr(body: &[u8]) -> bool
-    ensures { result ≡ ok_snr body.now }
+#[tactic(auto, unfolding(crate::specs::Body::snr_form))]
+fn snr_form(body: &[u8]) -> bool
+    ensures { result ≡ snr_form body.now }
 {
     body.len() == 10 && ok_reading(past(body, 1))
 }
 
 // Kind 5: two bytes, each 0 or 1.
-#[tactic(auto, unfolding(crate::specs::Body::ok_families))]
-fn ok_families(body: &[u8]) -> bool
-    ensures { result ≡ ok_families body.now }
+#[tactic(auto, unfolding(crate::specs::Body::families_form))]
+fn families_form(body: &[u8]) -> bool
+    ensures { result ≡ families_form body.now }
 {
     body.len() == 3 && byte_at(body, 1) <= 1 && byte_at(body, 2) <= 1
 }
 
 // Kind 6: three numbers, whole burst counts.
-#[tactic(auto, unfolding(crate::specs::Body::ok_prices))]
-fn ok_prices(body: &[u8]) -> bool
-    ensures { result ≡ ok_prices body.now }
+#[tactic(auto, unfolding(crate::specs::Body::prices_form))]
+fn prices_form(body: &[u8]) -> bool
+    ensures { result ≡ prices_form body.now }
 {
     body.len() >= 25 && (body.len() - 25) % 2 == 0
 }
 
 // Kind 7.
-fn ok_seed(body: &[u8]) -> bool
-    ensures { result ≡ ok_seed body.now }
+fn seed_form(body: &[u8]) -> bool
+    ensures { result ≡ seed_form body.now }
 {
     body.len() == 9
 }
@@ -89,13 +89,13 @@ pub fn ok_body(body: &[u8]) -> bool
     ensures { result ≡ ok_body body.now }
 {
     match Kind::try_from(byte_at(body, 0)) {
-        Ok(Kind::Frames) => ok_frames(body),
-        Ok(Kind::Echo) => ok_echo(body),
-        Ok(Kind::Silence) => ok_silence(body),
-        Ok(Kind::Snr) => ok_snr(body),
-        Ok(Kind::Families) => ok_families(body),
-        Ok(Kind::Prices) => ok_prices(body),
-        Ok(Kind::Seed) => ok_seed(body),
+        Ok(Kind::Frames) => frames_form(body),
+        Ok(Kind::Echo) => echo_form(body),
+        Ok(Kind::Silence) => silence_form(body),
+        Ok(Kind::Snr) => snr_form(body),
+        Ok(Kind::Families) => families_form(body),
+        Ok(Kind::Prices) => prices_form(body),
+        Ok(Kind::Seed) => seed_form(body),
         Err(_) => false,
     }
 }

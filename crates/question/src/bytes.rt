@@ -1,9 +1,9 @@
 // Numbers in bytes, little-endian: each function reads what stands at the start of the bytes that it is given, and a byte past their end reads as 0.
 ghost use Rattle.std.specs.Prelude.{◌≡◌, drop, take};
-ghost use Rattle.question.specs.Bytes.{byte, le16, le32, le64, float, ok_reading, reading_of};
+ghost use Rattle.question.specs.Bytes.{byte, le16, le32, le64, le_f64, ok_reading, reading_of};
 ghost use Rattle.question.specs.Body.{first_of};
 
-use float::bits::float_of;
+use le_f64::bits::float_of;
 use limits::reading::Reading;
 use std::array;
 
@@ -63,9 +63,9 @@ pub fn u64_of(bytes: &[u8]) -> u64
 }
 
 // Eight bytes as an f64; every NaN pattern gives the NaN.
-#[tactic(auto, unfolding(crate::specs::Bytes::float))]
+#[tactic(auto, unfolding(crate::specs::Bytes::le_f64))]
 pub fn f64_of(bytes: &[u8]) -> f64
-    ensures { result ≡ float bytes.now }
+    ensures { result ≡ le_f64 bytes.now }
 {
     float_of(u64_of(bytes))
 }

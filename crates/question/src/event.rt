@@ -4,7 +4,7 @@ ghost use Rattle.limits.specs.Values.{ok_length, ok_burst};
 ghost use Rattle.ladder.specs.Lists.{every};
 ghost use Rattle.rate.specs.Calls.{step, Frames, Echo, Silence, Snr, Seed, Price, Family};
 ghost use Rattle.rate.specs.bridges.Replies.{answer_of};
-ghost use Rattle.question.specs.Bytes.{byte, le32, float, reading_of};
+ghost use Rattle.question.specs.Bytes.{byte, le32, le_f64, reading_of};
 ghost use Rattle.question.specs.Body.{frame_count, frames_in, bursts_in, call_of};
 
 use crate::body::{burst_count, bursts_of, frame_count, frames_of, ok_bursts};
@@ -43,7 +43,7 @@ fn frames_event(p: &mut Player, body: &[u8]) -> Reply
 
 // Kind 2. Refused: 8.
 fn echo_event(p: &mut Player, body: &[u8]) -> Reply
-    ensures { answer_of p.new result ≡ step p.old (Echo (reading_of (drop 1 body.now)) (float (drop 10 body.now))) }
+    ensures { answer_of p.new result ≡ step p.old (Echo (reading_of (drop 1 body.now)) (le_f64 (drop 10 body.now))) }
 {
     p.observe_echo(reading_of(past(body, 1)), f64_of(past(body, 10)))
 }
@@ -82,7 +82,7 @@ fn within_prices(floor: f64, ordinary: f64, gap: f64, body: &[u8]) -> bool
 // Kind 6. Refused: 8, a count past the 32nd included, then 9.
 #[tactic(auto, using(crate::proofs::Bodies::length_bursts, crate::proofs::Held::all_held, crate::proofs::Held::price_too_many, crate::proofs::Held::price_outside))]
 fn prices_event(p: &mut Player, body: &[u8]) -> Reply
-    ensures { answer_of p.new result ≡ step p.old (Price (float (drop 1 body.now)) (float (drop 9 body.now)) (float (drop 17 body.now)) (bursts_in body.now)) }
+    ensures { answer_of p.new result ≡ step p.old (Price (le_f64 (drop 1 body.now)) (le_f64 (drop 9 body.now)) (le_f64 (drop 17 body.now)) (bursts_in body.now)) }
 {
     let floor = f64_of(past(body, 1));
     let ordinary = f64_of(past(body, 9));
@@ -99,7 +99,7 @@ fn prices_event(p: &mut Player, body: &[u8]) -> Reply
 
 // Kind 7. Refused: 8.
 fn seed_event(p: &mut Player, body: &[u8]) -> Reply
-    ensures { answer_of p.new result ≡ step p.old (Seed (float (drop 1 body.now))) }
+    ensures { answer_of p.new result ≡ step p.old (Seed (le_f64 (drop 1 body.now))) }
 {
     p.seed(f64_of(past(body, 1)))
 }

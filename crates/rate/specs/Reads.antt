@@ -18,14 +18,14 @@ use Rattle.rules.specs.Echo.{first_place, refuses}
 use Rattle.rate.specs.Calls.{RateController, fresh_controller}
 
 -- 6: "rung not in the table (a frame, `value`, `estimate`)"
-abbrev pub rate : Bool → Float → Result Float Refusal
-rate known x = cond known (Ok x) (Err UnknownRung)
+abbrev pub rated : Bool → Float → Result Float Refusal
+rated known x = cond known (Ok x) (Err UnknownRung)
 
 unfoldable pub value_of : RateController → ℕ → Result Float Refusal
-value_of k r = rate (in_table k.table r) (value k.table k.prices k.state r)
+value_of k r = rated (in_table k.table r) (value k.table k.prices k.state r)
 
 unfoldable pub estimate_of : RateController → ℕ → Result Float Refusal
-estimate_of k r = rate (in_table k.table r) (estimate k.table k.state r)
+estimate_of k r = rated (in_table k.table r) (estimate k.table k.state r)
 
 -- "For a rung outside the table `account` is zero, `lossless` 0.0, `threshold_db` missing, as in the Rust."
 unfoldable pub account_of : RateController → ℕ → Account

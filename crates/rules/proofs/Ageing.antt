@@ -15,7 +15,7 @@ use Rattle.float.specs.Numbers.{f64, f1, ◌⊘◌}
 use Rattle.half.specs.Power.{half}
 use Rattle.ladder.proofs.Ranges.{left, none_left}
 use Rattle.ladder.specs.declared.types.Table.{Table}
-use Rattle.ladder.specs.Types.{rungs_of, in_table}
+use Rattle.ladder.specs.Types.{rung_count, in_table}
 use Rattle.account.specs.declared.types.Account.{Account}
 use Rattle.account.specs.State.{no_account}
 use Rattle.rules.specs.declared.types.Frame.{Frame}
@@ -88,7 +88,7 @@ aged_start n by l h =
 -- ---- a frame booked
 module _ (t : Table) (f : Frame) (d : Fades) (l : List Account) (long : length l ≡ 32) (fading : Fading t f.air d) where
   abbrev all : ℕ
-  all = rungs_of t
+  all = rung_count t
 
   abbrev s : List Account
   s = aged_by all 0 d.by l
@@ -160,10 +160,10 @@ module _ (t : Table) (f : Frame) (d : Fades) (l : List Account) (long : length l
 -- ---- the code's own form: the accounts in use are aged as a slice
 module _ (t : Table) (f : Frame) (by : List Float) (l : List Account) (long : length l ≡ 32) where
   abbrev sliced : List Account
-  sliced = aged_by (length (take (rungs_of t) l)) 0 by (take (rungs_of t) l) ++ drop (rungs_of t) l
+  sliced = aged_by (length (take (rung_count t) l)) 0 by (take (rung_count t) l) ++ drop (rung_count t) l
 
-  is_sliced : sliced ≡ aged_by (rungs_of t) 0 by l
-  is_sliced = aged_start (rungs_of t) by l (omega (arith, long))
+  is_sliced : sliced ≡ aged_by (rung_count t) 0 by l
+  is_sliced = aged_start (rung_count t) by l (omega (arith, long))
 
   -- the frame's rung is not in use
   pub books_others : false ≡ in_table t f.rung.0 → sliced ≡ booked_by t by f l
@@ -174,7 +174,7 @@ module _ (t : Table) (f : Frame) (by : List Float) (l : List Account) (long : le
   pub books_own : (e : Account) → true ≡ in_table t f.rung.0 → set sliced f.rung.0 (gained f (aged (f64 0x3fee_3437_e710_1344) (get_or l f.rung.0 e))) ≡ booked_by t by f l
   unfolding booked_by
   books_own e q =
-      let h : f.rung.0 < rungs_of t = ltb-true f.rung.0 (rungs_of t) (sym q) in
+      let h : f.rung.0 < rung_count t = ltb-true f.rung.0 (rung_count t) (sym q) in
       rw (is_sliced, get_or_default l f.rung.0 e no_account (omega (arith, long)), ← own_fade_lem, ← q) refl
 
 -- ---- the loops

@@ -25,7 +25,7 @@ use Rattle.account.specs.State.{Trying, choice, try_of}
 use Rattle.rules.specs.Lists.{some_of, how_many}
 use Rattle.rules.specs.Echo.{observe_snr}
 use Rattle.rules.specs.Booking.{Frame, at, book, call_air, offsets_at, offsets_after, ofdm, judge_family, airs, sent, clean_mark, booked}
-use Rattle.rules.specs.Tries.{judge_above, own_frames, end_try, counted, decide}
+use Rattle.rules.specs.Tries.{judge_above, own_frames, end_probe, counted, decide}
 use Rattle.rules.specs.bridges.Sets.{in_set}
 use Rattle.rules.specs.bridges.Pass.{Pass, Marks, add_rung, offsets_by, mark_family, mark_choice, family_mark, choice_mark, count_own, begin_pass, here_of, pass_step, pass_all, booked_accounts, finish_pass, judged_pass, decided_pass}
 use Rattle.rules.specs.Transmission.{judged, inside}
@@ -238,7 +238,7 @@ own_counted t s fs = rw (gathers t s.core (begin_pass s.core) fs) (own_from s.co
 
 -- which is all that the end of a try asks of the count
 pub counted_to_3 : (t : Table) (p : Prices) (n : ℕ) (s : State) (y : Trying) → counted t p (min 3 n) s y ≡ counted t p n s y
-unfolding counted end_try
+unfolding counted end_probe
 counted_to_3 t p n s None = refl
 counted_to_3 t p n s (Some y) =
     elim (dec_lt n 3) [

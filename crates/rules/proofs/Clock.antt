@@ -13,21 +13,21 @@ use Rattle.float.proofs.Monotone.{natural, add_natural}
 use Rattle.limits.specs.Readings.{Reading}
 use Rattle.std.specs.Prelude.{None, Some}
 use Rattle.ladder.specs.declared.types.Table.{Table}
-use Rattle.ladder.specs.Types.{rung_at, rungs_of, places_of}
+use Rattle.ladder.specs.Types.{rung_at, rung_count, place_count}
 use Rattle.std.proofs.lemmas.Bool.{cond_both}
 use Rattle.std.proofs.lemmas.Float.{T_from_true}
 use Rattle.ladder.proofs.Cases.{pick}
 use Rattle.ladder.proofs.Entries.{All, all_get, all_set}
 use Rattle.ladder.proofs.TableSound.{TableSound}
-use Rattle.account.specs.State.{Trying, time_of, wait_of, choice, with_time, with_wait, with_trying, with_place, with_echo}
+use Rattle.account.specs.State.{Trying, since_of, wait_of, choice, with_since, with_wait, with_trying, with_place, with_echo}
 use Rattle.account.specs.declared.types.Prices.{Prices}
 use Rattle.account.specs.declared.types.State.{State}
-use Rattle.account.specs.Price.{wait_seconds}
+use Rattle.account.specs.Price.{wait_s}
 use Rattle.account.proofs.FullAir.{TariffSound, IsWait, seconds_natural}
 use Rattle.rules.specs.Lowest.{Best}
-use Rattle.rules.specs.Echo.{out, usable, end_if_out, echoed, smooth_echo, observe_echo, seed, seed_at, observe_snr}
+use Rattle.rules.specs.Echo.{echo_out, usable, end_if_out, echoed, smooth_echo, observe_echo, seed, seed_at, observe_snr}
 use Rattle.rules.specs.Booking.{Frame, call_air, passed, booked}
-use Rattle.rules.specs.Tries.{better, judge_try, to_judge, judge_sent, judge_above, place_from, full_wait, won, end_try, own_frames, counted, Decided, begins, above, decide_try, decide_at, decide, choose}
+use Rattle.rules.specs.Tries.{better, judge_try, to_judge, judge_if_sent, judge_above, place_from, full_wait, won, end_probe, own_frames, counted, Decided, begins, above, decide_try, decide_at, decide, choose}
 use Rattle.rules.specs.Transmission.{judged, inside, observe_frames}
 
 -- over the two lists, so that a step on any other field keeps it as it stands
@@ -40,7 +40,7 @@ pub record Clock (since : List Float) (wait : List ℕ) : Type 0 where
 abbrev pub Ticks : State → Type 0
 Ticks s = Clock s.since s.wait
 
-pub time_natural : (s : State) → Ticks s → (r : ℕ) → r < 32 → natural (time_of s r)
+pub time_natural : (s : State) → Ticks s → (r : ℕ) → r < 32 → natural (since_of s r)
 time_natural s h r k = all_get natural s.since r f0 h.naturals (subst (λ (n : ℕ). r < n) (sym h.since_32) k)
 
 pub wait_is : (s : State) → Ticks s → (r : ℕ) → r < 32 → IsWait (wait_of s r)
@@ -50,7 +50,7 @@ pub zero_natural : natural f0
 unfolding of_bits le
 zero_natural = tt
 
-set_time : (s : State) (r : ℕ) (x : Float) → Ticks s → natural x → Ticks (with_time s r x)
+set_time : (s : State) (r : ℕ) (x : Float) → Ticks s → natural x → Ticks (with_since s r x)
 set_time s r x h n = record {
   since_32 = length-set s.since r x ∙ h.since_32;
   wait_32 = h.wait_32;
@@ -73,14 +73,14 @@ judge_ticks t p s r h =
     let w = min 48 (2 * wait_of s r) in
     pick Ticks (better t p s r) (set_wait s r 6 h (omega arith)) (set_time (with_wait s r w) r f0 (set_wait s r w h (omega arith)) zero_natural)
 
-sent_ticks : (t : Table) (p : Prices) (fs : List Frame) (s : State) (r : ℕ) → Ticks s → Ticks (judge_sent t p fs s r)
-unfolding judge_sent
+sent_ticks : (t : Table) (p : Prices) (fs : List Frame) (s : State) (r : ℕ) → Ticks s → Ticks (judge_if_sent t p fs s r)
+unfolding judge_if_sent
 sent_ticks t p fs s r h = pick Ticks (to_judge t s fs r) (judge_ticks t p s r h) h
 
 above_ticks : (n r : ℕ) (t : Table) (p : Prices) (fs : List Frame) (s : State) → Ticks s → Ticks (judge_above n r t p fs s)
 unfolding judge_above
 above_ticks zero r t p fs s h = h
-above_ticks (suc n) r t p fs s h = above_ticks n (suc r) t p fs (judge_sent t p fs s r) (sent_ticks t p fs s r h)
+above_ticks (suc n) r t p fs s h = above_ticks n (suc r) t p fs (judge_if_sent t p fs s r) (sent_ticks t p fs s r h)
 
 passed_length : (n i : ℕ) (t : Table) (a : Float) (since : List Float) → length (passed n i t a since) ≡ length since
 unfolding passed
@@ -100,9 +100,9 @@ passed_natural (suc n) i t a since k h =
 booked_ticks : (t : Table) (s : State) (fs : List Frame) → natural (call_air fs) → Ticks s → Ticks (booked t s fs)
 unfolding booked
 booked_ticks t s fs n h = record {
-  since_32 = passed_length (places_of t) 0 t (call_air fs) s.since ∙ h.since_32;
+  since_32 = passed_length (place_count t) 0 t (call_air fs) s.since ∙ h.since_32;
   wait_32 = h.wait_32;
-  naturals = passed_natural (places_of t) 0 t (call_air fs) s.since n h.naturals;
+  naturals = passed_natural (place_count t) 0 t (call_air fs) s.since n h.naturals;
   waits = h.waits;
 }
 
@@ -114,16 +114,16 @@ module _ (t : Table) (p : Prices) (ts : TableSound t) (ps : TariffSound p.tariff
       let r = rung_at t up in
       cond_both (usable t s up) _ _ Ticks
       (λ e.
-      let there : r < rungs_of t = ts.on_table up (ltb→lt up (places_of t) (and_l (ltb up (places_of t)) (not (out t s r)) (T_from_true _ e))) in
-      set_time s r (wait_seconds t p.tariff s r) h (seconds_natural t p.tariff s r ts ps there (wait_is s h r (omega arith))))
+      let there : r < rung_count t = ts.on_table up (ltb→lt up (place_count t) (and_l (ltb up (place_count t)) (not (echo_out t s r)) (T_from_true _ e))) in
+      set_time s r (wait_s t p.tariff s r) h (seconds_natural t p.tariff s r ts ps there (wait_is s h r (omega arith))))
       (λ e. h)
 
   won_ticks : (s : State) (r : ℕ) → Ticks s → Ticks (won t p s r)
   unfolding won
-  won_ticks s r h = full_ticks (with_place s (place_from (places_of t) 0 t r s.core.place.0)) h
+  won_ticks s r h = full_ticks (with_place s (place_from (place_count t) 0 t r s.core.place.0)) h
 
-  end_ticks : (s : State) (r frames : ℕ) → Ticks s → Ticks (end_try t p s r frames)
-  unfolding end_try
+  end_ticks : (s : State) (r frames : ℕ) → Ticks s → Ticks (end_probe t p s r frames)
+  unfolding end_probe
   end_ticks s r frames h =
       let j = judge_ticks t p s r h in
       pick Ticks (eqb frames 0) h (pick Ticks (better t p s r) (won_ticks (judge_try t p s r) r j) j)
@@ -168,10 +168,10 @@ echo_untimed t p s (Some x) snr = pick (Untimed s) (lt snr (neg (f64 0x4018_0000
   where
     off : (m : State) (y : Trying) → Untimed s m → Untimed s (end_if_out t m y)
     off m None h = h
-    off m (Some y) h = pick (Untimed s) (out t m y.rung.0) h h
+    off m (Some y) h = pick (Untimed s) (echo_out t m y.rung.0) h h
 
     heard : (m : State) → Untimed s m → Untimed s (echoed t p m)
-    heard m h = let z = end_if_out t m m.core.trying in let k = off m m.core.trying h in pick (Untimed s) (out t z (choice t z)) k k
+    heard m h = let z = end_if_out t m m.core.trying in let k = off m m.core.trying h in pick (Untimed s) (echo_out t z (choice t z)) k k
 
 pub seed_untimed : (t : Table) (p : Prices) (s : State) (snr : Float) → Untimed s (seed t p s snr)
 unfolding seed

@@ -21,9 +21,9 @@ use Rattle.half.specs.Powers.{powers}
 use Rattle.rules.specs.Booking.{f12}
 use Rattle.ladder.specs.declared.types.Table.{Table}
 use Rattle.ladder.specs.Lists.{tabulate}
-use Rattle.ladder.specs.Types.{row, rungs_of}
+use Rattle.ladder.specs.Types.{row, rung_count}
 use Rattle.ladder.proofs.Tabulating.{tabulate_at, length_tabulate}
-use Rattle.rules.specs.bridges.Pass.{Fade, Fades, factor, fade_at, filled, turned, Fading, Kept}
+use Rattle.rules.specs.bridges.Pass.{Fade, Fades, factor, fade_at, fades_for, turned, Fading, Kept}
 
 -- "its own by half(1/12)": 0.9438743126816935
 pub own_fade_lem : half (f1 ⊘ f12) ≡ f64 0x3fee_3437_e710_1344
@@ -161,19 +161,19 @@ kept_fading t air d k e r h =
     k above r h ∙ same_air air d.air _ above (and_r (lt f0 d.air) (eq air d.air) both)
 
 -- all of them right, they are those that `filled` has, as many as there are rungs in use
-pub filled_done : (t : Table) (air : Float) (by : List Float) → length by ≡ rungs_of t → ((r : ℕ) → r < rungs_of t → get_or by r f1 ≡ factor air (row t r).time)
-    → by ≡ tabulate (rungs_of t) 0 (λ r. factor air (row t r).time)
+pub filled_done : (t : Table) (air : Float) (by : List Float) → length by ≡ rung_count t → ((r : ℕ) → r < rung_count t → get_or by r f1 ≡ factor air (row t r).time)
+    → by ≡ tabulate (rung_count t) 0 (λ r. factor air (row t r).time)
 filled_done t air by long right =
-    let n = rungs_of t in
+    let n = rung_count t in
     let F : ℕ → Float = λ r. factor air (row t r).time in
     ext_get_or f1 by (tabulate n 0 F) (long ∙ sym (length_tabulate n 0 F))
     (λ r k. let h : r < n = omega (arith, long) in right r h ∙ ap F (sym (zero-add r)) ∙ sym (tabulate_at n 0 F r f1 h))
 
 -- the factors filled are those for the air
-filled_fading : (t : Table) (air : Float) (d : Fades) → Fading t air (filled t air d)
-unfolding filled
+filled_fading : (t : Table) (air : Float) (d : Fades) → Fading t air (fades_for t air d)
+unfolding fades_for
 filled_fading t air d r h =
-    let n = rungs_of t in
+    let n = rung_count t in
     let F : ℕ → Float = λ q. factor air (row t q).time in
     get_or-append (tabulate n 0 F) (drop n d.by) f1 r (omega (arith, length_tabulate n 0 F)) ∙ tabulate_at n 0 F r f1 h ∙ ap F (zero-add r)
 
@@ -183,14 +183,14 @@ module _ (t : Table) (air : Float) (d : Fades) (k : Kept t d) where
   unfolding turned
   turned_fading = go (lt f0 d.air && eq air d.air) refl
     where
-      go : (b : Bool) → b ≡ (lt f0 d.air && eq air d.air) → Fading t air (cond b d (filled t air d))
+      go : (b : Bool) → b ≡ (lt f0 d.air && eq air d.air) → Fading t air (cond b d (fades_for t air d))
       go true q = kept_fading t air d k q
       go false q = filled_fading t air d
 
   pub turned_kept : Kept t (turned t air d)
-  unfolding turned filled
+  unfolding turned fades_for
   turned_kept = go (lt f0 d.air && eq air d.air)
     where
-      go : (b : Bool) → Kept t (cond b d (filled t air d))
+      go : (b : Bool) → Kept t (cond b d (fades_for t air d))
       go true = k
       go false = λ a. filled_fading t air d

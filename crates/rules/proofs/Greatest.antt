@@ -16,7 +16,7 @@ use Rattle.account.specs.declared.types.State.{State}
 use Rattle.account.specs.Price.{value}
 use Rattle.ladder.proofs.Cases.{pick}
 use Rattle.std.specs.Prelude.{None, Some}
-use Rattle.rules.specs.Lowest.{Best, found, beats, greatest, improved}
+use Rattle.rules.specs.Lowest.{Best, found, exceeds, greatest, improved}
 
 -- the value of the rung at a place
 abbrev pub worth : Table → Prices → State → ℕ → Float
@@ -44,14 +44,14 @@ module _ (A : ℕ → Bool) (W : ℕ → Float) where
   pub keeps : (n i : ℕ) (b : Best) → Valued b → Valued (greatest n i A W b)
   unfolding greatest
   keeps zero i b h = h
-  keeps (suc n) i b h = keeps n (suc i) (improved A W i b) (pick Valued (A i && beats (W i) b) refl h)
+  keeps (suc n) i b h = keeps n (suc i) (improved A W i b) (pick Valued (A i && exceeds (W i) b) refl h)
 
   module _ (m : ℕ) (far : (j : ℕ) → m ≤ j → A j ≡ false) where
     idle : (n i : ℕ) (b : Best) → m ≤ i → greatest n i A W b ≡ b
     unfolding greatest
     idle zero i b h = refl
     idle (suc n) i b h =
-        ap (greatest n (suc i) A W) (ap (λ (u : Bool). cond (u && beats (W i) b) (found (place i) (W i)) b) (far i h)) ∙ idle n (suc i) b (omega arith)
+        ap (greatest n (suc i) A W) (ap (λ (u : Bool). cond (u && exceeds (W i) b) (found (place i) (W i)) b) (far i h)) ∙ idle n (suc i) b (omega arith)
 
     pub capped : (n i : ℕ) (b : Best) → greatest (min (m - i) n) i A W b ≡ greatest n i A W b
     unfolding greatest

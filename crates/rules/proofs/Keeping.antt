@@ -2,7 +2,7 @@
 use Rattle.std.specs.Prelude.{◌≡◌, List, [], ◌∷◌, length}
 use mathlib.Core.Path.{refl, ap, ◌∙◌}
 use Rattle.ladder.specs.declared.types.Table.{Table}
-use Rattle.ladder.specs.Types.{rungs_of}
+use Rattle.ladder.specs.Types.{rung_count}
 use Rattle.account.specs.declared.types.Account.{Account}
 use Rattle.rules.specs.declared.types.Frame.{Frame}
 use Rattle.rules.specs.Booking.{book_frame, book}
@@ -18,7 +18,7 @@ books_kept t d (f ∷ fs) l long k =
     let e = turned t f.air d in
     let right = turned_fading t f.air d k in
     ap (booked_all t e fs) (books_by t f e l long right)
-    ∙ books_kept t e fs (book_frame (rungs_of t) 0 t f l) (booked_length t f e l long right) (turned_kept t f.air d k)
+    ∙ books_kept t e fs (book_frame (rung_count t) 0 t f l) (booked_length t f e l long right) (turned_kept t f.air d k)
 
 pub still_kept : (t : Table) (d : Fades) (fs : List Frame) → Kept t d → Kept t (turned_all t d fs)
 still_kept t d [] k = k

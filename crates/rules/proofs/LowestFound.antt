@@ -17,14 +17,14 @@ use Rattle.std.proofs.lemmas.Bool.{cond_both}
 use Rattle.std.proofs.lemmas.Float.{T_from_true}
 use Rattle.ladder.proofs.Cases.{pick}
 use Rattle.std.specs.Prelude.{None, Some}
-use Rattle.rules.specs.Lowest.{Best, found, Lowest, BestOf, beats, improved, greatest}
+use Rattle.rules.specs.Lowest.{Best, found, Lowest, BestOf, exceeds, improved, greatest}
 
 -- ---- one is found where one is allowed
 found_stays : (n i : ℕ) (allowed : ℕ → Bool) (worth : ℕ → Float) (j : Place) (x : Float) → greatest n i allowed worth (found j x) ≢ None
 unfolding greatest
 found_stays zero i allowed worth j x = λ (e : found j x ≡ None). let z : ◌≡◌ {A = ℕ} 0 1 = cc in absurd (omega arith)
 found_stays (suc n) i allowed worth j x =
-    pick (λ (b : Best). greatest n (suc i) allowed worth b ≢ None) (allowed i && beats (worth i) (found j x))
+    pick (λ (b : Best). greatest n (suc i) allowed worth b ≢ None) (allowed i && exceeds (worth i) (found j x))
     (found_stays n (suc i) allowed worth (place i) (worth i)) (found_stays n (suc i) allowed worth j x)
 
 pub finds : (n i : ℕ) (allowed : ℕ → Bool) (worth : ℕ → Float) (j : ℕ) → i ≤ j → j < i + n → T (allowed j) → greatest n i allowed worth None ≢ None

@@ -16,7 +16,7 @@ use Rattle.account.specs.declared.types.Prices.{Prices}
 use Rattle.account.specs.declared.types.State.{State}
 use Rattle.account.specs.State.{choice}
 use Rattle.rules.specs.Booking.{Frame, sent}
-use Rattle.rules.specs.Tries.{tries, judge_try, judge_sent, judge_above}
+use Rattle.rules.specs.Tries.{tries, judge_try, judge_if_sent, judge_above}
 use Rattle.rules.specs.bridges.Sets.{in_set, fold_up, judge_one, judge_set}
 
 -- a digit is 0 or 1
@@ -190,8 +190,8 @@ module _ (t : Table) (p : Prices) where
 
   -- ---- the frames' side
   module _ (fs : List Frame) where
-    one : (s : State) (r : ℕ) → judge_sent t p fs s r ≡ cond (sent fs r) (judge_one t p s r) s
-    unfolding judge_sent
+    one : (s : State) (r : ℕ) → judge_if_sent t p fs s r ≡ cond (sent fs r) (judge_one t p s r) s
+    unfolding judge_if_sent
     one s r = go (sent fs r)
       where
         go : (b : Bool) → cond (b && ltb (choice t s) r && not (tries s.core.trying r)) (judge_try t p s r) s ≡ cond b (judge_one t p s r) s

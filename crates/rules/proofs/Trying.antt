@@ -14,16 +14,16 @@ use Rattle.ladder.specs.declared.types.Rung.{Rung}
 use Rattle.limits.specs.Readings.{Reading}
 use Rattle.std.specs.Prelude.{None, Some}
 use Rattle.ladder.specs.declared.types.Table.{Table}
-use Rattle.ladder.specs.Types.{rung, places_of}
+use Rattle.ladder.specs.Types.{rung, place_count}
 use Rattle.std.proofs.lemmas.Bool.{cond_both, or_parts}
 use Rattle.ladder.proofs.Cases.{pick}
 use Rattle.account.specs.State.{Trying, try_of, runs, choice, with_trying, with_place, with_echo}
 use Rattle.account.specs.declared.types.Prices.{Prices}
 use Rattle.account.specs.declared.types.State.{State}
 use Rattle.rules.specs.Lowest.{Best}
-use Rattle.rules.specs.Echo.{out, usable, end_if_out, down_if_out, echoed, smooth_echo, observe_echo, seed, seed_at, observe_snr}
+use Rattle.rules.specs.Echo.{echo_out, usable, end_if_out, down_if_out, echoed, smooth_echo, observe_echo, seed, seed_at, observe_snr}
 use Rattle.rules.specs.Booking.{Frame, booked}
-use Rattle.rules.specs.Tries.{Decided, better, judge_try, to_judge, judge_sent, judge_above, place_from, full_wait, won, end_try, own_frames, counted, begins, above, decide_try, decide_at, decide, choose}
+use Rattle.rules.specs.Tries.{Decided, better, judge_try, to_judge, judge_if_sent, judge_above, place_from, full_wait, won, end_probe, own_frames, counted, begins, above, decide_try, decide_at, decide, choose}
 use Rattle.rules.specs.Transmission.{judged, inside}
 
 -- ---- what leaves the try as it was
@@ -31,14 +31,14 @@ judge_keeps_try : (t : Table) (p : Prices) (s : State) (r : ℕ) → (judge_try 
 unfolding judge_try
 judge_keeps_try t p s r = pick (λ (z : State). z.core.trying ≡ s.core.trying) (better t p s r) refl refl
 
-sent_keeps_try : (t : Table) (p : Prices) (fs : List Frame) (s : State) (r : ℕ) → (judge_sent t p fs s r).core.trying ≡ s.core.trying
-unfolding judge_sent
+sent_keeps_try : (t : Table) (p : Prices) (fs : List Frame) (s : State) (r : ℕ) → (judge_if_sent t p fs s r).core.trying ≡ s.core.trying
+unfolding judge_if_sent
 sent_keeps_try t p fs s r = pick (λ (z : State). z.core.trying ≡ s.core.trying) (to_judge t s fs r) (judge_keeps_try t p s r) refl
 
 above_keeps_try : (n r : ℕ) (t : Table) (p : Prices) (fs : List Frame) (s : State) → (judge_above n r t p fs s).core.trying ≡ s.core.trying
 unfolding judge_above
 above_keeps_try zero r t p fs s = refl
-above_keeps_try (suc n) r t p fs s = above_keeps_try n (suc r) t p fs (judge_sent t p fs s r) ∙ sent_keeps_try t p fs s r
+above_keeps_try (suc n) r t p fs s = above_keeps_try n (suc r) t p fs (judge_if_sent t p fs s r) ∙ sent_keeps_try t p fs s r
 
 pub judged_keeps_try : (t : Table) (p : Prices) (s : State) (fs : List Frame) → (judged t p s fs).core.trying ≡ s.core.trying
 unfolding booked
@@ -50,10 +50,10 @@ wait_keeps_try t p s = pick (λ (z : State). z.core.trying ≡ s.core.trying) (u
 
 won_keeps_try : (t : Table) (p : Prices) (s : State) (r : ℕ) → (won t p s r).core.trying ≡ s.core.trying
 unfolding won
-won_keeps_try t p s r = wait_keeps_try t p (with_place s (place_from (places_of t) 0 t r s.core.place.0))
+won_keeps_try t p s r = wait_keeps_try t p (with_place s (place_from (place_count t) 0 t r s.core.place.0))
 
-end_keeps_try : (t : Table) (p : Prices) (s : State) (r frames : ℕ) → (end_try t p s r frames).core.trying ≡ s.core.trying
-unfolding end_try
+end_keeps_try : (t : Table) (p : Prices) (s : State) (r frames : ℕ) → (end_probe t p s r frames).core.trying ≡ s.core.trying
+unfolding end_probe
 end_keeps_try t p s r frames =
     let j = judge_keeps_try t p s r in
     pick (λ (z : State). z.core.trying ≡ s.core.trying) (eqb frames 0) refl
@@ -78,11 +78,11 @@ echo_rests t p s (Some x) snr =
     Rests y z = (z ≡ None) ⊎ (z ≡ y)
 
     down : (m : State) → (down_if_out t p m).core.trying ≡ m.core.trying
-    down m = pick (λ (z : State). z.core.trying ≡ m.core.trying) (out t m (choice t m)) refl refl
+    down m = pick (λ (z : State). z.core.trying ≡ m.core.trying) (echo_out t m (choice t m)) refl refl
 
     off : (m : State) (y : Trying) → m.core.trying ≡ y → Rests y (end_if_out t m y).core.trying
     off m None e = inr e
-    off m (Some y) e = pick (λ (z : State). Rests (try_of y.rung y.calls y.frames) z.core.trying) (out t m y.rung.0) (inl refl) (inr e)
+    off m (Some y) e = pick (λ (z : State). Rests (try_of y.rung y.calls y.frames) z.core.trying) (echo_out t m y.rung.0) (inl refl) (inr e)
 
     heard : (m : State) → Rests m.core.trying (echoed t p m).core.trying
     heard m = subst (λ (z : Trying). Rests m.core.trying z) (sym (down (end_if_out t m m.core.trying))) (off m m.core.trying refl)

@@ -7,12 +7,12 @@ use Rattle.half.specs.Power.{half}
 use Rattle.limits.specs.Readings.{Reading}
 use Rattle.ladder.specs.declared.types.Table.{Table}
 use Rattle.ladder.specs.Lists.{every}
-use Rattle.ladder.specs.Types.{rung, row, rung_at, rungs_of, places_of, is_floor}
+use Rattle.ladder.specs.Types.{rung, row, rung_at, rung_count, place_count, is_floor}
 use Rattle.account.specs.declared.types.Account.{Account}
 use Rattle.account.specs.State.{Mark, no_account, choice}
 use Rattle.account.specs.declared.types.Offsets.{Offsets}
 use Rattle.account.specs.declared.types.State.{State}
-use Rattle.account.specs.Price.{chance}
+use Rattle.account.specs.Price.{prior_p}
 use Rattle.rules.specs.Lists.{some_of}
 pub use Rattle.rules.specs.declared.types.Frame.{Frame}
 
@@ -25,7 +25,7 @@ abbrev pub clamp : Float → Float
 clamp x = cond (lt x (neg f5)) (neg f5) (cond (lt f20 x) f20 x)
 
 abbrev pub moved : Table → Float → Frame → Float → Float
-moved t snr f off = clamp (off ⊕ t.air.gain ⊗ (chance t f.rung.0 off snr ⊖ cond f.decoded f1 f0))
+moved t snr f off = clamp (off ⊕ t.air.gain ⊗ (prior_p t f.rung.0 off snr ⊖ cond f.decoded f1 f0))
 
 -- of the two offsets, floor and OFDM, the frame's family's
 abbrev pub offset_step : Table → Float → Frame → Offsets → Offsets
@@ -67,7 +67,7 @@ book_frame (suc n) r t f accounts = book_frame n (suc r) t f (set accounts r (bo
 
 unfoldable pub book : Table → List Frame → List Account → List Account
 book t [] accounts = accounts
-book t (f ∷ fs) accounts = book t fs (book_frame (rungs_of t) 0 t f accounts)
+book t (f ∷ fs) accounts = book t fs (book_frame (rung_count t) 0 t f accounts)
 
 -- ---- marks and air
 -- "a list with OFDM frames sets the failed mark if none of them is decoded, else clears it; a list without any leaves it"
@@ -100,7 +100,7 @@ clean_mark here fs = cond (sent fs here && every (λ f. not (at here f) || (f.de
 unfoldable pub booked : Table → State → List Frame → State
 booked t s fs = record {
   accounts = book t fs s.accounts;
-  since = passed (places_of t) 0 t (call_air fs) s.since;
+  since = passed (place_count t) 0 t (call_air fs) s.since;
   wait = s.wait;
   core = record {
     trying = s.core.trying;

@@ -5,7 +5,7 @@ use Rattle.float.specs.Numbers.{f64, ◌⊕◌, ◌⊗◌}
 use Rattle.limits.specs.Readings.{Reading}
 use Rattle.ladder.specs.declared.types.Table.{Table}
 use Rattle.ladder.specs.Lists.{some_from}
-use Rattle.ladder.specs.Types.{row, rung_at, places_of, is_floor}
+use Rattle.ladder.specs.Types.{row, rung_at, place_count, is_floor}
 use Rattle.account.specs.State.{Trying, choice, with_trying, with_snr, with_echo, with_place}
 use Rattle.account.specs.declared.types.Prices.{Prices}
 use Rattle.account.specs.declared.types.State.{State}
@@ -27,27 +27,27 @@ abbrev pub smooth_echo : Reading → Float → Reading
 smooth_echo y x = smooth (f64 0x3fe3_3333_3333_3333) (f64 0x3fd9_9999_9999_999a) y x
 
 -- "A rung is out only when echo > its limit"
-abbrev pub over : Reading → Reading → Bool
-over None e = false
-over (Some l) None = false
-over (Some l) (Some e) = lt l e
+abbrev pub over_limit : Reading → Reading → Bool
+over_limit None e = false
+over_limit (Some l) None = false
+over_limit (Some l) (Some e) = lt l e
 
-abbrev pub out : Table → State → ℕ → Bool
-out t s r = over (row t r).limit s.core.echo
+abbrev pub echo_out : Table → State → ℕ → Bool
+echo_out t s r = over_limit (row t r).limit s.core.echo
 
 -- "a place is usable if it exists and its rung is not out"
 abbrev pub usable : Table → State → ℕ → Bool
-usable t s i = ltb i (places_of t) && not (out t s (rung_at t i))
+usable t s i = ltb i (place_count t) && not (echo_out t s (rung_at t i))
 
 -- ---- `observe_echo`
 abbrev pub end_if_out : Table → State → Trying → State
 end_if_out t s None = s
-end_if_out t s (Some y) = cond (out t s y.rung.0) (with_trying s None) s
+end_if_out t s (Some y) = cond (echo_out t s y.rung.0) (with_trying s None) s
 
 -- "a choice that is out goes to the lowest of greatest value among allowed places under it, else place 0"
 abbrev pub down_if_out : Table → Prices → State → State
 down_if_out t p s =
-    cond (out t s (choice t s)) (with_place s (best_place (greatest s.core.place.0 0 (usable t s) (λ i. value t p s (rung_at t i)) None))) s
+    cond (echo_out t s (choice t s)) (with_place s (best_place (greatest s.core.place.0 0 (usable t s) (λ i. value t p s (rung_at t i)) None))) s
 
 -- "else the echo is smoothed, a try whose rung is now out ends, and a choice that is out .."
 abbrev pub echoed : Table → Prices → State → State
@@ -68,7 +68,7 @@ silent t s steps = with_place (with_trying s None) (highest t s (s.core.place.0 
 
 -- ---- `first_mode`: "the lowest of greatest priced estimate at the SNR given, over allowed places, else place 0"
 abbrev pub first_place : Table → Prices → State → Float → ℕ
-first_place t p s snr = best_place (greatest (places_of t) 0 (usable t s) (λ i. priced t p (rung_at t i) (estimate_at t s (rung_at t i) (Some snr))) None)
+first_place t p s snr = best_place (greatest (place_count t) 0 (usable t s) (λ i. priced t p (rung_at t i) (estimate_at t s (rung_at t i) (Some snr))) None)
 
 -- ---- `seed`: "nothing once an SNR is known; else the SNR is taken and the choice is `first_mode`"
 abbrev pub seed_at : Table → Prices → State → Float → Reading → State
@@ -87,7 +87,7 @@ abbrev pub ofdm_at : Table → ℕ → Bool
 ofdm_at t i = not (is_floor t (rung_at t i))
 
 unfoldable pub all_out : Table → State → Bool
-all_out t s = some_from (places_of t) 0 (ofdm_at t) && not (some_from (places_of t) 0 (λ i. ofdm_at t i && not (out t s (rung_at t i))))
+all_out t s = some_from (place_count t) 0 (ofdm_at t) && not (some_from (place_count t) 0 (λ i. ofdm_at t i && not (echo_out t s (rung_at t i))))
 
 unfoldable pub refuses : Table → State → ℕ → Bool
 refuses t s r = not (is_floor t r) && (s.core.failed && is_floor t (choice t s) || all_out t s)

@@ -13,12 +13,12 @@ abbrev pub found : Place → Float → Best
 found i x = Some (record { place = i; value = x })
 
 -- of n places from i on, those allowed; `best` is what was found before
-abbrev pub beats : Float → Best → Bool
-beats x None = true
-beats x (Some b) = lt b.value x
+abbrev pub exceeds : Float → Best → Bool
+exceeds x None = true
+exceeds x (Some b) = lt b.value x
 
 abbrev pub improved : (ℕ → Bool) → (ℕ → Float) → ℕ → Best → Best
-improved allowed worth i best = cond (allowed i && beats (worth i) best) (found (place i) (worth i)) best
+improved allowed worth i best = cond (allowed i && exceeds (worth i) best) (found (place i) (worth i)) best
 
 unfoldable pub greatest : ℕ → ℕ → (ℕ → Bool) → (ℕ → Float) → Best → Best
 greatest zero i allowed worth best = best

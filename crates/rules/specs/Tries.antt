@@ -4,11 +4,11 @@ use Rattle.std.specs.Bool.{beq}
 use Rattle.std.specs.Float.Ieee.{le, lt}
 use Rattle.float.specs.Numbers.{f64, ◌⊖◌, f0, f2}
 use Rattle.ladder.specs.declared.types.Table.{Table}
-use Rattle.ladder.specs.Types.{rung, rung_at, places_of, is_floor}
-use Rattle.account.specs.State.{Trying, try_of, Mark, account, time_of, wait_of, choice, with_time, with_wait, with_trying, with_place}
+use Rattle.ladder.specs.Types.{rung, rung_at, place_count, is_floor}
+use Rattle.account.specs.State.{Trying, try_of, Mark, account, since_of, wait_of, choice, with_since, with_wait, with_trying, with_place}
 use Rattle.account.specs.declared.types.Prices.{Prices}
 use Rattle.account.specs.declared.types.State.{State}
-use Rattle.account.specs.Price.{value, lossless_price, wait_seconds}
+use Rattle.account.specs.Price.{value, lossless_price, wait_s}
 use Rattle.rules.specs.Lists.{how_many}
 use Rattle.rules.specs.Echo.{usable}
 use Rattle.rules.specs.Lowest.{Best, greatest}
@@ -19,7 +19,7 @@ abbrev pub better : Table → Prices → State → ℕ → Bool
 better t p s r = lt (value t p s (choice t s)) (value t p s r)
 
 unfoldable pub judge_try : Table → Prices → State → ℕ → State
-judge_try t p s r = cond (better t p s r) (with_wait s r 6) (with_time (with_wait s r (min 48 (2 * wait_of s r))) r f0)
+judge_try t p s r = cond (better t p s r) (with_wait s r 6) (with_since (with_wait s r (min 48 (2 * wait_of s r))) r f0)
 
 -- whether the rung r is being tried
 abbrev pub tries : Trying → ℕ → Bool
@@ -30,12 +30,12 @@ tries (Some y) r = eqb y.rung.0 r
 abbrev pub to_judge : Table → State → List Frame → ℕ → Bool
 to_judge t s fs r = sent fs r && ltb (choice t s) r && not (tries s.core.trying r)
 
-unfoldable pub judge_sent : Table → Prices → List Frame → State → ℕ → State
-judge_sent t p fs s r = cond (to_judge t s fs r) (judge_try t p s r) s
+unfoldable pub judge_if_sent : Table → Prices → List Frame → State → ℕ → State
+judge_if_sent t p fs s r = cond (to_judge t s fs r) (judge_try t p s r) s
 
 unfoldable pub judge_above : ℕ → ℕ → Table → Prices → List Frame → State → State
 judge_above zero r t p fs s = s
-judge_above (suc n) r t p fs s = judge_above n (suc r) t p fs (judge_sent t p fs s r)
+judge_above (suc n) r t p fs s = judge_above n (suc r) t p fs (judge_if_sent t p fs s r)
 
 -- ---- a running try
 -- the place of a rung
@@ -46,14 +46,14 @@ place_from (suc n) i t r d = cond (eqb (rung_at t i) r) i (place_from n (suc i) 
 -- "A won try moves the choice; the next rung, if usable, gets its full wait as time."
 unfoldable pub full_wait : Table → Prices → State → State
 full_wait t p s =
-    let up = rung_at t (suc s.core.place.0) in cond (usable t s (suc s.core.place.0)) (with_time s up (wait_seconds t p.tariff s up)) s
+    let up = rung_at t (suc s.core.place.0) in cond (usable t s (suc s.core.place.0)) (with_since s up (wait_s t p.tariff s up)) s
 
 unfoldable pub won : Table → Prices → State → ℕ → State
-won t p s r = full_wait t p (with_place s (place_from (places_of t) 0 t r s.core.place.0))
+won t p s r = full_wait t p (with_place s (place_from (place_count t) 0 t r s.core.place.0))
 
 -- "judged if it had a frame"; the try is off already
-unfoldable pub end_try : Table → Prices → State → ℕ → ℕ → State
-end_try t p s r frames = cond (eqb frames 0) s (cond (better t p s r) (won t p (judge_try t p s r) r) (judge_try t p s r))
+unfoldable pub end_probe : Table → Prices → State → ℕ → ℕ → State
+end_probe t p s r frames = cond (eqb frames 0) s (cond (better t p s r) (won t p (judge_try t p s r) r) (judge_try t p s r))
 
 -- "A running try counts the call and its own frames; over at 3 frames or 6 calls"
 -- its own frames, of a call
@@ -66,7 +66,7 @@ unfoldable pub counted : Table → Prices → ℕ → State → Trying → State
 counted t p n s None = s
 counted t p n s (Some y) =
     cond (leb 3 (y.frames + n) || leb 6 (suc y.calls))
-    (end_try t p (with_trying s None) y.rung.0 (y.frames + n))
+    (end_probe t p (with_trying s None) y.rung.0 (y.frames + n))
     (with_trying s (try_of y.rung (suc y.calls) (y.frames + n)))
 
 -- ---- `decide`
@@ -87,15 +87,15 @@ candidate t s i = usable t s i && (leb i s.core.place.0 || lt f2 (account s (run
 
 -- "the lowest of greatest value"
 unfoldable pub choose : Table → Prices → State → Best
-choose t p s = greatest (places_of t) 0 (candidate t s) (λ i. value t p s (rung_at t i)) None
+choose t p s = greatest (place_count t) 0 (candidate t s) (λ i. value t p s (rung_at t i)) None
 
 -- 1e-9, the wait's tolerance in seconds
 abbrev pub nano : Float
 nano = f64 0x3e11_2e0b_e826_d695
 
 -- "its time >= wait - 1e-9"
-abbrev pub due : Table → Prices → State → ℕ → Bool
-due t p s r = le (wait_seconds t p.tariff s r ⊖ nano) (time_of s r)
+abbrev pub waited : Table → Prices → State → ℕ → Bool
+waited t p s r = le (wait_s t p.tariff s r ⊖ nano) (since_of s r)
 
 -- "`clean_climb` holds: the mark is on the choice, both rungs are of one family, the upper one's wait is 6 and its value > the choice's"
 abbrev pub is_on : Mark → ℕ → Bool
@@ -113,11 +113,11 @@ above t s = rung_at t (suc s.core.place.0)
 -- "Otherwise the rung above is tried if usable, lossless price > choice's value, and its time >= wait - 1e-9 or `clean_climb` holds"
 abbrev pub begins : Table → Prices → State → Bool
 begins t p s =
-    usable t s (suc s.core.place.0) && lt (value t p s (choice t s)) (lossless_price t p (above t s)) && (due t p s (above t s) || clean_climb t p s (above t s))
+    usable t s (suc s.core.place.0) && lt (value t p s (choice t s)) (lossless_price t p (above t s)) && (waited t p s (above t s) || clean_climb t p s (above t s))
 
 -- "Its time becomes 0."
 abbrev pub begin : Table → State → Decided
-begin t s = record { state = with_trying (with_time s (above t s) f0) (try_of (rung (above t s)) 0 0); begun = true }
+begin t s = record { state = with_trying (with_since s (above t s) f0) (try_of (rung (above t s)) 0 0); begun = true }
 
 -- "With a try running it also stops, after ending one that is not exactly above."
 abbrev pub decide_try : Table → Prices → State → Trying → Decided

@@ -2,9 +2,9 @@
 ghost use Rattle.std.specs.Prelude.{◌≡◌, ◌&&◌, ◌≤◌, length};
 ghost use Rattle.std.specs.Float.Ieee.{lt, eq};
 ghost use Rattle.float.specs.Numbers.{f0};
-ghost use Rattle.ladder.specs.Types.{rungs_of};
+ghost use Rattle.ladder.specs.Types.{rung_count};
 ghost use Rattle.rules.specs.Booking.{aged, gained, book_frame};
-ghost use Rattle.rules.specs.bridges.Pass.{factor, fade_at, no_fades, filled};
+ghost use Rattle.rules.specs.bridges.Pass.{factor, fade_at, no_fades, fades_for};
 ghost use Rattle.rules.specs.bridges.Ageing.{aged_by, booked_by};
 
 use crate::types::Frame;
@@ -97,12 +97,12 @@ impl Fades {
     }
 
     // The factors of all rungs in use, for a frame's air. One is computed anew only where the frame time differs from the rung's before.
-    #[tactic(auto, unfolding(crate::specs::bridges::Pass::filled), using(crate::proofs::Fade::fade_carried, crate::proofs::Fade::filled_more, crate::proofs::Fade::filled_done))]
+    #[tactic(auto, unfolding(crate::specs::bridges::Pass::fades_for), using(crate::proofs::Fade::fade_carried, crate::proofs::Fade::filled_more, crate::proofs::Fade::filled_done))]
     pub(crate) fn fill(&mut self, t: &Table, air: f64)
-        ensures { self.new ≡ filled t.now air self.old }
+        ensures { self.new ≡ fades_for t.now air self.old }
     {
         let mut fade = Fade { time: 0.0, by: 1.0 };
-        let n = t.rungs() as usize;
+        let n = t.rung_count() as usize;
         for (i, by) in self.by[..n].iter_mut().enumerate() {
             fade = fade_for(air, t.row(Rung(i as u32)).time, fade);
             *by = fade.by;
@@ -126,10 +126,10 @@ fn age(accounts: &mut [Account], by: &[f64; 32])
 
 // All accounts after a frame, by the factors given: all are aged, and the frame's own rung as it was before ages by its own factor and gains.
 #[tactic(auto, using(crate::proofs::Ageing::books_own, crate::proofs::Ageing::books_others))]
-pub(crate) fn book_accounts(t: &Table, accounts: &mut [Account; 32], fades: &Fades, f: Frame)
+pub(crate) fn book_frame(t: &Table, accounts: &mut [Account; 32], fades: &Fades, f: Frame)
     ensures { accounts.new ≡ booked_by t.now fades.now.by f accounts.old }
 {
-    let n = t.rungs() as usize;
+    let n = t.rung_count() as usize;
     if !t.has(f.rung) {
         age(&mut accounts[..n], &fades.by);
         return;

@@ -1,6 +1,6 @@
 // Document 01's section "Echo and silence", as far as single values go.
 ghost use Rattle.std.specs.Prelude.{◌≡◌, Some};
-ghost use Rattle.rules.specs.Echo.{smooth, smooth_snr, smooth_echo, over};
+ghost use Rattle.rules.specs.Echo.{smooth, smooth_snr, smooth_echo, over_limit};
 
 use limits::reading::Reading;
 
@@ -27,7 +27,7 @@ pub fn smooth_echo(y: Reading, x: f64) -> Reading
 
 // Whether an echo is over a limit.
 pub fn over_limit(limit: Reading, echo: Reading) -> bool
-    ensures { result ≡ over limit echo }
+    ensures { result ≡ over_limit limit echo }
 {
     limit.zip(echo).is_some_and(|(l, e)| e > l)
 }

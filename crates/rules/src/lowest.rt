@@ -1,6 +1,6 @@
 // The lowest of greatest value: the best place found so far, and whether one place more is better.
 ghost use Rattle.std.specs.Prelude.{◌≡◌, cond};
-ghost use Rattle.rules.specs.Lowest.{found, beats, best_place};
+ghost use Rattle.rules.specs.Lowest.{found, exceeds, best_place};
 
 use ladder::types::Place;
 
@@ -12,8 +12,8 @@ pub struct Found {
 }
 
 // The better of the best so far and a place with its value: of equal values the earlier, which is the lower.
-pub fn beat(best: Option<Found>, place: Place, value: f64) -> Option<Found>
-    ensures { result ≡ cond (beats value best) (found place value) best }
+pub fn better_of(best: Option<Found>, place: Place, value: f64) -> Option<Found>
+    ensures { result ≡ cond (exceeds value best) (found place value) best }
 {
     if best.is_none_or(|so_far| value > so_far.value) {
         Some(Found { place, value })

@@ -35,7 +35,7 @@ fn move_family(t: &Table, snr: f64, f: Frame, o: Offsets) -> Offsets
     ensures { result ≡ offset_step t.now snr f o }
 {
     let moved = |off| {
-        let c = account::price::chance(t, f.rung, off, snr);
+        let c = account::price::prior_p(t, f.rung, off, snr);
         clamp_offset(off + t.air.gain * (c - hit(f.decoded)))
     };
     if f.combined {

@@ -1,11 +1,11 @@
 // The one pass over a transmission's frames: what it gathers beside the accounts, one step a frame, and what it leaves.
 ghost use Rattle.std.specs.Prelude.{◌≡◌};
-ghost use Rattle.ladder.specs.Types.{rungs_of};
+ghost use Rattle.ladder.specs.Types.{rung_count};
 ghost use Rattle.rules.specs.Booking.{book_frame};
 ghost use Rattle.rules.specs.bridges.Pass.{add_rung, begin_pass, pass_step, pass_all, finish_core, turned, turned_all};
 ghost use Rattle.rules.specs.bridges.Ageing.{booked_by, booked_all};
 
-use crate::accounts::{Fades, book_accounts, is_same};
+use crate::accounts::{Fades, book_frame, is_same};
 use crate::marks::Marks;
 use crate::offsets::move_offsets;
 use crate::tries::count_own;
@@ -83,7 +83,7 @@ pub(crate) fn book(t: &Table, s: &mut State, fades: &mut Fades, y: &mut Pass, f:
     if !is_same(f.air, fades.air) {
         fades.fill(t, f.air);
     }
-    book_accounts(t, &mut s.accounts, fades, f);
+    book_frame(t, &mut s.accounts, fades, f);
     y.gather(t, &s.core, f);
 }
 

@@ -53,7 +53,7 @@ pub fn count_own(y: Option<Try>, f: Frame, n: u32) -> u32
 }
 
 // Whether a try is over with this call: so many own frames with the call's, and so many calls before it.
-pub fn is_over(frames: u64, calls: u32) -> bool
+pub fn try_over(frames: u64, calls: u32) -> bool
     ensures { result ≡ (leb 3 frames || leb 6 (suc calls)) }
 {
     frames >= TRY_FRAMES as u64 || calls >= TRY_CALLS - 1

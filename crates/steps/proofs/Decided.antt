@@ -3,7 +3,7 @@ use Rattle.std.specs.Prelude.{◌≡◌, Float, None}
 use mathlib.Core.Path.{subst}
 use Rattle.ladder.specs.declared.types.Place.{Place}
 use Rattle.ladder.specs.declared.types.Table.{Table}
-use Rattle.ladder.specs.Types.{places_of}
+use Rattle.ladder.specs.Types.{place_count}
 use Rattle.account.specs.declared.types.Prices.{Prices}
 use Rattle.account.specs.declared.types.State.{State}
 use Rattle.account.specs.State.{choice, with_place}
@@ -14,4 +14,4 @@ use Rattle.rules.proofs.Greatest.{worth, Valued, keeps}
 
 pub chosen : (t : Table) (p : Prices) (s : State) (i : Place) (v : Float) → choose t p s ≡ found i v → v ≡ value t p (with_place s i.0) (choice t (with_place s i.0))
 unfolding choose value estimate_at
-chosen t p s i v e = subst (Valued (candidate t s) (worth t p s)) e (keeps (candidate t s) (worth t p s) (places_of t) 0 None tt)
+chosen t p s i v e = subst (Valued (candidate t s) (worth t p s)) e (keeps (candidate t s) (worth t p s) (place_count t) 0 None tt)

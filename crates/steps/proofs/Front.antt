@@ -12,9 +12,9 @@ use Rattle.ladder.specs.declared.types.Table.{Table}
 use Rattle.ladder.specs.declared.types.Rung.{Rung}
 use Rattle.ladder.specs.declared.types.Place.{Place}
 use Rattle.ladder.specs.Lists.{some_from}
-use Rattle.ladder.specs.Types.{rung, place, rung_at, places_of}
+use Rattle.ladder.specs.Types.{rung, place, rung_at, place_count}
 use Rattle.account.specs.declared.types.State.{State}
-use Rattle.rules.specs.Echo.{out, usable}
+use Rattle.rules.specs.Echo.{echo_out, usable}
 use Rattle.rules.specs.Lowest.{Best, greatest}
 use Rattle.rules.specs.Tries.{place_from}
 use Rattle.rules.proofs.Greatest.{start_capped}
@@ -49,35 +49,35 @@ place_along t r (suc n) i d (x ∷ l) long h =
     go true e = refl
     go false e = ap (λ (k : ℕ). (unwrap_or (option_map place (position_from (λ y. eqb y.0 r) k (take n l))) d).0) (add-one i) ∙ e
 
-module _ (t : Table) (count : length (take (places_of t) t.front.rungs) ≡ places_of t) where
-  fits : places_of t ≤ length t.front.rungs
-  fits = let cut = length-take (places_of t) t.front.rungs in omega (arith, cut, count)
+module _ (t : Table) (count : length (take (place_count t) t.front.rungs) ≡ place_count t) where
+  fits : place_count t ≤ length t.front.rungs
+  fits = let cut = length-take (place_count t) t.front.rungs in omega (arith, cut, count)
 
-  pub any_on_front : (f : Rung → Bool) → list_any f (take (places_of t) t.front.rungs) ≡ some_from (places_of t) 0 (λ k. f (get_or t.front.rungs k (rung 0)))
-  any_on_front f = any_along f (λ k. get_or t.front.rungs k (rung 0)) (places_of t) 0 (rung 0) t.front.rungs fits (λ k less. ap (λ (j : ℕ). get_or t.front.rungs j (rung 0)) (zero-add k))
+  pub any_on_front : (f : Rung → Bool) → list_any f (take (place_count t) t.front.rungs) ≡ some_from (place_count t) 0 (λ k. f (get_or t.front.rungs k (rung 0)))
+  any_on_front f = any_along f (λ k. get_or t.front.rungs k (rung 0)) (place_count t) 0 (rung 0) t.front.rungs fits (λ k less. ap (λ (j : ℕ). get_or t.front.rungs j (rung 0)) (zero-add k))
 
-  pub place_on_front : (r : ℕ) (d : Place) → (unwrap_or (option_map place (position_from (λ x. eqb x.0 r) 0 (take (places_of t) t.front.rungs))) d).0 ≡ place_from (places_of t) 0 t r d.0
-  place_on_front r d = place_along t r (places_of t) 0 d t.front.rungs fits (λ k less. ap (λ (j : ℕ). get_or t.front.rungs j (rung 0)) (zero-add k))
+  pub place_on_front : (r : ℕ) (d : Place) → (unwrap_or (option_map place (position_from (λ x. eqb x.0 r) 0 (take (place_count t) t.front.rungs))) d).0 ≡ place_from (place_count t) 0 t r d.0
+  place_on_front r d = place_along t r (place_count t) 0 d t.front.rungs fits (λ k less. ap (λ (j : ℕ). get_or t.front.rungs j (rung 0)) (zero-add k))
 
 -- the rung that a walk meets at a place
-pub rung_here : (t : Table) (l : List Rung) → l ≡ take (places_of t) t.front.rungs → (i : ℕ) → i < places_of t → (get_or l i (rung 0)).0 ≡ rung_at t i
-rung_here t l e i h = rw e (ap (λ (x : Rung). x.0) (get_or-take (places_of t) t.front.rungs i (rung 0) h))
+pub rung_here : (t : Table) (l : List Rung) → l ≡ take (place_count t) t.front.rungs → (i : ℕ) → i < place_count t → (get_or l i (rung 0)).0 ≡ rung_at t i
+rung_here t l e i h = rw e (ap (λ (x : Rung). x.0) (get_or-take (place_count t) t.front.rungs i (rung 0) h))
 
 -- a walk over the n lowest places ends with the front
-none_after : (t : Table) (s : State) (i : ℕ) → places_of t ≤ i → usable t s i ≡ false
-none_after t s i h = ap (λ (b : Bool). b && not (out t s (rung_at t i))) (le-ltb i (places_of t) h)
+none_after : (t : Table) (s : State) (i : ℕ) → place_count t ≤ i → usable t s i ≡ false
+none_after t s i h = ap (λ (b : Bool). b && not (echo_out t s (rung_at t i))) (le-ltb i (place_count t) h)
 
-pub start_usable : (t : Table) (s : State) (W : ℕ → Float) (n : ℕ) (b : Best) → greatest (min (places_of t) n - 0) 0 (usable t s) W b ≡ greatest n 0 (usable t s) W b
-start_usable t s W n b = start_capped (usable t s) W (places_of t) (none_after t s) n b
+pub start_usable : (t : Table) (s : State) (W : ℕ → Float) (n : ℕ) (b : Best) → greatest (min (place_count t) n - 0) 0 (usable t s) W b ≡ greatest n 0 (usable t s) W b
+start_usable t s W n b = start_capped (usable t s) W (place_count t) (none_after t s) n b
 
 -- a place of the front is usable if its rung is not out
-pub usable_here : (t : Table) (s : State) (i r : ℕ) (o : Bool) → i < places_of t → r ≡ rung_at t i → o ≡ out t s r → not o ≡ usable t s i
-usable_here t s i r o h e q = rw (lt-ltb i (places_of t) h, ← e, q) refl
+pub usable_here : (t : Table) (s : State) (i r : ℕ) (o : Bool) → i < place_count t → r ≡ rung_at t i → o ≡ echo_out t s r → not o ≡ usable t s i
+usable_here t s i r o h e q = rw (lt-ltb i (place_count t) h, ← e, q) refl
 
 -- the rung that a walk over the m lowest places meets
-pub rung_under : (t : Table) (l : List Rung) → l ≡ take (places_of t) t.front.rungs → (m i : ℕ) → i < m → i < places_of t → (get_or (take m l) i (rung 0)).0 ≡ rung_at t i
+pub rung_under : (t : Table) (l : List Rung) → l ≡ take (place_count t) t.front.rungs → (m i : ℕ) → i < m → i < place_count t → (get_or (take m l) i (rung 0)).0 ≡ rung_at t i
 rung_under t l e m i h g = ap (λ (x : Rung). x.0) (get_or-take m l i (rung 0) h) ∙ rung_here t l e i g
 
 -- how many rungs such a walk meets
-pub met_under : (t : Table) (l : List Rung) → length l ≡ places_of t → (n m : ℕ) → m ≡ min (places_of t) n → length (take m l) ≡ min (places_of t) n
+pub met_under : (t : Table) (l : List Rung) → length l ≡ place_count t → (n m : ℕ) → m ≡ min (place_count t) n → length (take m l) ≡ min (place_count t) n
 met_under t l count n m e = let cut = length-take m l in omega (arith, cut, count, e)

@@ -1,12 +1,12 @@
 // `decide` of document 01's section "A transmission", in place.
 ghost use Rattle.std.specs.Prelude.{◌≡◌, ◌&&◌, ◌<◌, eqb, Some, None, if◌then◌else◌};
 ghost use Rattle.std.specs.Bool.{beq};
-ghost use Rattle.ladder.specs.Types.{rung, rung_at, places_of, is_floor};
+ghost use Rattle.ladder.specs.Types.{rung, rung_at, place_count, is_floor};
 ghost use Rattle.account.specs.Price.{value};
 ghost use Rattle.account.specs.State.{choice, wait_of};
-ghost use Rattle.rules.specs.Tries.{candidate, choose, due, is_on, above, begins, decided, decide_try, decide};
+ghost use Rattle.rules.specs.Tries.{candidate, choose, waited, is_on, above, begins, decided, decide_try, decide};
 
-use crate::echo::is_out;
+use crate::echo::echo_out;
 use crate::judge::usable_above;
 use account::state::PROBE_EVERY;
 use account::types::{State, Terms, Try};
@@ -16,10 +16,10 @@ use rules::lowest::Found;
 // ---- the best place
 // Whether a place on the front may be chosen: not out, and at or below the choice or with over 2 decayed frames.
 fn is_candidate(t: &Table, s: &State, i: Place, r: Rung) -> bool
-    requires { (i.0 < places_of t.now) × (r.0 ≡ rung_at t.now i.0) }
+    requires { (i.0 < place_count t.now) × (r.0 ≡ rung_at t.now i.0) }
     ensures { result ≡ candidate t.now s.now i.0 }
 {
-    !is_out(t, s, r) && (i <= s.core.place || s.account(r).frames > 2.0)
+    !echo_out(t, s, r) && (i <= s.core.place || s.account(r).frames > 2.0)
 }
 
 // The lowest of greatest value.
@@ -33,7 +33,7 @@ fn choose_place(k: Terms, s: &State) -> Option<Found>
     for (i, r) in k.table.front().iter().enumerate() {
         let place = Place(i as u32);
         if is_candidate(k.table, s, place, *r) {
-            best = rules::lowest::beat(best, place, k.value(s, *r));
+            best = rules::lowest::better_of(best, place, k.value(s, *r));
         }
     }
     best
@@ -41,10 +41,10 @@ fn choose_place(k: Terms, s: &State) -> Option<Found>
 
 // ---- whether a try begins; v is the choice's value, read once
 // Whether a rung has waited long enough.
-fn is_due(k: Terms, s: &State, r: Rung) -> bool
-    ensures { result ≡ due k.entry.table.now k.entry.prices.now s.now r.0 }
+fn waited(k: Terms, s: &State, r: Rung) -> bool
+    ensures { result ≡ waited k.entry.table.now k.entry.prices.now s.now r.0 }
 {
-    s.time(r) >= k.wait_seconds(s, r) - rules::tries::WAIT_TOLERANCE_S
+    s.since(r) >= k.wait_s(s, r) - rules::tries::WAIT_TOLERANCE_S
 }
 
 // Whether the rung above needs no wait, if its value is greater: the mark is on the choice, both rungs are of one family, and its wait is the shortest.
@@ -65,7 +65,7 @@ fn rung_to_try(k: Terms, s: &State, v: f64) -> Option<Rung>
 {
     let up = usable_above(k.table, s)?;
     let is_tried = k.lossless_price(up) > v
-        && (is_due(k, s, up) || is_clean(k.table, s, up) && k.value(s, up) > v);
+        && (waited(k, s, up) || is_clean(k.table, s, up) && k.value(s, up) > v);
     is_tried.then_some(up)
 }
 
@@ -80,7 +80,7 @@ fn decide_try(k: Terms, s: &mut State, v: f64) -> bool
             let Some(rung) = rung_to_try(k, s, v) else {
                 return false;
             };
-            s.set_time(rung, 0.0);
+            s.set_since(rung, 0.0);
             s.core.trying = Some(Try {
                 rung,
                 calls: 0,

@@ -1,10 +1,10 @@
 // Document 01's section "Echo and silence", in place.
 ghost use Rattle.std.specs.Prelude.{◌≡◌, ◌&&◌, not, None};
 ghost use Rattle.ladder.specs.Lists.{some_from};
-ghost use Rattle.ladder.specs.Types.{rung_at, places_of};
-ghost use Rattle.rules.specs.Echo.{out, usable, end_if_out, echoed, highest, observe_echo, silent, first_place, seed, observe_snr, ofdm_at, all_out, refuses};
+ghost use Rattle.ladder.specs.Types.{rung_at, place_count};
+ghost use Rattle.rules.specs.Echo.{echo_out, usable, end_if_out, echoed, highest, observe_echo, silent, first_place, seed, observe_snr, ofdm_at, all_out, refuses};
 ghost use Rattle.rules.specs.Lowest.{improved, greatest};
-ghost use Rattle.steps.specs.bridges.Worth.{worth_at};
+ghost use Rattle.steps.specs.bridges.Worth.{place_value};
 
 use account::types::{State, Terms};
 use ladder::types::{Place, Rung, Table};
@@ -13,31 +13,31 @@ use rules::lowest::{Found, best_place};
 
 // ---- what the echo allows
 // Whether a rung is out.
-pub(crate) fn is_out(t: &Table, s: &State, r: Rung) -> bool
-    ensures { result ≡ out t.now s.now r.0 }
+pub(crate) fn echo_out(t: &Table, s: &State, r: Rung) -> bool
+    ensures { result ≡ echo_out t.now s.now r.0 }
 {
     rules::echo::over_limit(t.row(r).limit, s.core.echo)
 }
 
 // Whether a place exists and its rung is not out.
 // (The place's number is tested: `places` is a count, and no `Place`.)
-pub(crate) fn is_usable(t: &Table, s: &State, i: Place) -> bool
+pub(crate) fn usable(t: &Table, s: &State, i: Place) -> bool
     ensures { result ≡ usable t.now s.now i.0 }
 {
-    i.0 < t.places() && !is_out(t, s, t.rung_at(i))
+    i.0 < t.place_count() && !echo_out(t, s, t.rung_at(i))
 }
 
 // ---- the lowest of greatest value
 // The best by value at an SNR of the usable ones among the first n places.
 #[tactic(auto, using(crate::proofs::Front::start_usable, crate::proofs::Front::met_under, crate::proofs::Front::rung_under, crate::proofs::Front::usable_here, rules::proofs::Greatest::turn, rules::proofs::Greatest::done))]
 fn best_among(k: Terms, s: &State, snr: Reading, n: u32) -> Option<Found>
-    ensures { result ≡ greatest n 0 (usable k.entry.table.now s.now) (worth_at k.entry.table.now k.entry.prices.now s.now snr) None }
+    ensures { result ≡ greatest n 0 (usable k.entry.table.now s.now) (place_value k.entry.table.now k.entry.prices.now s.now snr) None }
 {
     let front = k.table.front();
     let mut best = None;
     for (i, r) in front[..front.len().min(n as usize)].iter().enumerate() {
-        if !is_out(k.table, s, *r) {
-            best = rules::lowest::beat(best, Place(i as u32), k.value_at(s, *r, snr));
+        if !echo_out(k.table, s, *r) {
+            best = rules::lowest::better_of(best, Place(i as u32), k.value_at(s, *r, snr));
         }
     }
     best
@@ -48,7 +48,7 @@ fn best_among(k: Terms, s: &State, snr: Reading, n: u32) -> Option<Found>
 fn end_if_out(t: &Table, s: &mut State)
     ensures { s.new ≡ end_if_out t.now s.old s.old.core.trying }
 {
-    if s.core.trying.is_some_and(|y| is_out(t, s, y.rung)) {
+    if s.core.trying.is_some_and(|y| echo_out(t, s, y.rung)) {
         s.core.trying = None;
     }
 }
@@ -60,7 +60,7 @@ fn obey_echo(k: Terms, s: &mut State)
 {
     end_if_out(k.table, s);
     let here = s.choice(k.table);
-    if is_out(k.table, s, here) {
+    if echo_out(k.table, s, here) {
         s.core.place = best_place(best_among(k, s, s.core.snr, s.core.place.0));
     }
 }
@@ -85,7 +85,7 @@ fn highest_from(t: &Table, s: &State, top: Place) -> Place
     ensures { result.0 ≡ highest t.now s.now top.0 }
 {
     for i in (1..=top.0.min(31)).rev() {
-        if is_usable(t, s, Place(i)) {
+        if usable(t, s, Place(i)) {
             return Place(i);
         }
     }
@@ -106,7 +106,7 @@ pub fn silent(t: &Table, s: &mut State, steps: u32)
 pub fn first_place(k: Terms, s: &State, snr: f64) -> Place
     ensures { result.0 ≡ first_place k.entry.table.now k.entry.prices.now s.now snr }
 {
-    best_place(best_among(k, s, Some(snr), k.table.places()))
+    best_place(best_among(k, s, Some(snr), k.table.place_count()))
 }
 
 // Starts from a reading, unless an SNR is known.
@@ -131,18 +131,18 @@ pub fn observe_snr(s: &mut State, snr: Reading)
 // (Two questions of the front's rungs, each one chain that ends in the library's `any`.)
 // Whether the front has OFDM rungs.
 fn has_ofdm(t: &Table) -> bool
-    ensures { result ≡ some_from (places_of t.now) 0 (ofdm_at t.now) }
+    ensures { result ≡ some_from (place_count t.now) 0 (ofdm_at t.now) }
 {
     t.front().iter().any(|r| !t.is_floor(*r))
 }
 
 // Whether the front has OFDM rungs that are not out.
 fn has_ofdm_in(t: &Table, s: &State) -> bool
-    ensures { result ≡ some_from (places_of t.now) 0 (λ i. ofdm_at t.now i && not (out t.now s.now (rung_at t.now i))) }
+    ensures { result ≡ some_from (place_count t.now) 0 (λ i. ofdm_at t.now i && not (echo_out t.now s.now (rung_at t.now i))) }
 {
     t.front()
         .iter()
-        .any(|r| !t.is_floor(*r) && !is_out(t, s, *r))
+        .any(|r| !t.is_floor(*r) && !echo_out(t, s, *r))
 }
 
 // Whether the front has OFDM rungs and all are out.

@@ -1,7 +1,7 @@
 // What a transmission leaves once its frames are booked.
 ghost use Rattle.std.specs.Prelude.{◌≡◌};
-ghost use Rattle.ladder.specs.Types.{places_of};
-ghost use Rattle.account.specs.State.{with_since};
+ghost use Rattle.ladder.specs.Types.{place_count};
+ghost use Rattle.account.specs.State.{with_all_since};
 ghost use Rattle.rules.specs.Booking.{passed};
 ghost use Rattle.rules.specs.Tries.{decided};
 ghost use Rattle.rules.specs.bridges.Pass.{decided_pass};
@@ -15,10 +15,10 @@ use rules::pass::Pass;
 // The times since each front rung's try, with the call's air.
 #[tactic(auto, using(crate::proofs::Passed::turn, crate::proofs::Passed::done, crate::proofs::Front::rung_here))]
 fn pass_times(t: &Table, s: &mut State, air: f64)
-    ensures { s.new ≡ with_since s.old (passed (places_of t.now) 0 t.now air s.old.since) }
+    ensures { s.new ≡ with_all_since s.old (passed (place_count t.now) 0 t.now air s.old.since) }
 {
     for r in t.front() {
-        s.set_time(*r, s.time(*r) + air);
+        s.set_since(*r, s.since(*r) + air);
     }
 }
 

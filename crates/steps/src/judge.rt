@@ -1,12 +1,12 @@
 // Document 01's section "A transmission", in place: judging the rungs sent, and the running try.
 ghost use Rattle.std.specs.Prelude.{◌≡◌, suc, Option, Some, None, unwrap_or, if◌then◌else◌};
-ghost use Rattle.ladder.specs.Types.{rung, places_of};
+ghost use Rattle.ladder.specs.Types.{rung, place_count};
 ghost use Rattle.ladder.specs.declared.types.Place.{Place};
 ghost use Rattle.rules.specs.Echo.{usable};
-ghost use Rattle.rules.specs.Tries.{better, judge_try, place_from, full_wait, end_try, counted, above};
+ghost use Rattle.rules.specs.Tries.{better, judge_try, place_from, full_wait, end_probe, counted, above};
 ghost use Rattle.rules.specs.bridges.Sets.{judge_one, judge_set};
 
-use crate::echo::is_usable;
+use crate::echo::usable;
 use account::state::PROBE_EVERY;
 use account::types::{State, Terms, Try};
 use ladder::types::{Place, Rung, Table};
@@ -30,7 +30,7 @@ fn judge_try(k: Terms, s: &mut State, r: Rung) -> bool
         s.set_wait(r, PROBE_EVERY);
     } else {
         s.set_wait(r, rules::tries::longer(s.wait(r)));
-        s.set_time(r, 0.0);
+        s.set_since(r, 0.0);
     }
     better
 }
@@ -64,13 +64,13 @@ pub(crate) fn usable_above(t: &Table, s: &State) -> Option<Rung>
     ensures { result ≡ (if usable t.now s.now (suc s.now.core.place.0) then Some (rung (above t.now s.now)) else None) }
 {
     let next = Place(s.core.place.0.saturating_add(1));
-    is_usable(t, s, next).then(|| t.rung_at(next))
+    usable(t, s, next).then(|| t.rung_at(next))
 }
 
 // ---- a running try
 // The place of a rung on the front, if it has one: whatever place d stands for none, it is the rung's place else d.
 fn place_of(t: &Table, r: Rung) -> Option<Place>
-    ensures { (d : Place) → (unwrap_or result d).0 ≡ place_from (places_of t.now) 0 t.now r.0 d.0 }
+    ensures { (d : Place) → (unwrap_or result d).0 ≡ place_from (place_count t.now) 0 t.now r.0 d.0 }
 {
     t.front()
         .iter()
@@ -84,14 +84,14 @@ fn full_wait(k: Terms, s: &mut State)
     ensures { s.new ≡ full_wait k.entry.table.now k.entry.prices.now s.old }
 {
     if let Some(up) = usable_above(k.table, s) {
-        s.set_time(up, k.wait_seconds(s, up));
+        s.set_since(up, k.wait_s(s, up));
     }
 }
 
 // What the end of a try of the rung r does, the try being off already: it is judged if it had a frame, and a won one moves the choice.
-#[tactic(auto, unfolding(rules::specs::Tries::end_try, rules::specs::Tries::won))]
-fn end_try(k: Terms, s: &mut State, r: Rung, frames: u64)
-    ensures { s.new ≡ end_try k.entry.table.now k.entry.prices.now s.old r.0 frames }
+#[tactic(auto, unfolding(rules::specs::Tries::end_probe, rules::specs::Tries::won))]
+fn end_probe(k: Terms, s: &mut State, r: Rung, frames: u64)
+    ensures { s.new ≡ end_probe k.entry.table.now k.entry.prices.now s.old r.0 frames }
 {
     if frames > 0 && judge_try(k, s, r) {
         s.core.place = place_of(k.table, r).unwrap_or(s.core.place);
@@ -107,9 +107,9 @@ pub(crate) fn count_try(k: Terms, s: &mut State, n: u32)
 {
     if let Some(y) = s.core.trying {
         let frames = y.frames as u64 + n as u64;
-        if rules::tries::is_over(frames, y.calls) {
+        if rules::tries::try_over(frames, y.calls) {
             s.core.trying = None;
-            end_try(k, s, y.rung, frames);
+            end_probe(k, s, y.rung, frames);
         } else {
             s.core.trying = Some(Try {
                 calls: y.calls + 1,

@@ -89,7 +89,7 @@ impl Mix {
         self.float(a.bytes)
             .float(a.air)
             .float(a.frames)
-            .float(k.state.time(r))
+            .float(k.state.since(r))
             .word(u64::from(k.state.wait(r)))
             .rated(k.value(r))
             .rated(k.estimate(r))

@@ -21,7 +21,7 @@ use Rattle.rules.proofs.Trying.{Goes, Off, echo_rests, seed_keeps_try, frames_id
 use Rattle.rate.specs.declared.types.RateController.{RateController}
 use Rattle.rate.specs.declared.types.Answer.{Answer}
 use Rattle.rate.specs.Calls.{Call, Frames, Echo, Silence, Snr, Seed, Price, Family, accepted, step, after}
-use Rattle.waiting.specs.Waiting.{taken, frames_of, carries, frame_call, frame_calls, some_ended, runs_after}
+use Rattle.waiting.specs.Waiting.{taken, carried_frames, carries, frame_call, frame_calls, some_ended, runs_after}
 use Rattle.rate.proofs.Stepping.{accepted_says, by_verdict}
 
 -- ---- one call on a running try
@@ -46,7 +46,7 @@ abbrev counts : Bool → ℕ → ℕ
 counts b n = cond b (suc n) n
 
 accepted_onward : (k : RateController) (c : Call) (r : Rung) (calls frames : ℕ) → k.state.core.trying ≡ try_of r calls frames → calls < 6
-    → Onward r (counts (carries (frames_of c)) calls) (accepted k c).ended (accepted k c).controller.state.core.trying
+    → Onward r (counts (carries (carried_frames c)) calls) (accepted k c).ended (accepted k c).controller.state.core.trying
 unfolding accepted observe_frames silent
 accepted_onward k (Frames [] snr) r calls frames e l = inr (frames, e, l)
 accepted_onward k (Frames (f ∷ fs) snr) r calls frames e l =
@@ -64,8 +64,8 @@ accepted_onward k (Family own other) r calls frames e l = inr (frames, e, l)
 step_onward : (k : RateController) (c : Call) (r : Rung) (calls frames : ℕ) → k.state.core.trying ≡ try_of r calls frames → calls < 6
     → Onward r (counts (frame_call k c) calls) (step k c).ended (step k c).controller.state.core.trying
 step_onward k c r calls frames e l =
-    by_verdict k c (λ (a : Answer). Onward r (counts (taken a.verdict && carries (frames_of c)) calls) a.ended a.controller.state.core.trying)
-    (λ v. subst (λ (w : Verdict). Onward r (counts (taken w && carries (frames_of c)) calls) (accepted k c).ended (accepted k c).controller.state.core.trying) (sym (accepted_says k c)) (accepted_onward k c r calls frames e l))
+    by_verdict k c (λ (a : Answer). Onward r (counts (taken a.verdict && carries (carried_frames c)) calls) a.ended a.controller.state.core.trying)
+    (λ v. subst (λ (w : Verdict). Onward r (counts (taken w && carries (carried_frames c)) calls) (accepted k c).ended (accepted k c).controller.state.core.trying) (sym (accepted_says k c)) (accepted_onward k c r calls frames e l))
     (λ why. inr (frames, e, l))
 
 -- ---- a list of calls: as many frame calls as are left to the sixth end it

@@ -18,15 +18,15 @@ use Rattle.limits.specs.Refusals.{Verdict}
 use Rattle.std.specs.Prelude.{Ok, Option}
 use Rattle.limits.specs.Readings.{Reading}
 use Rattle.ladder.specs.declared.types.Table.{Table}
-use Rattle.ladder.specs.Types.{rung_at, rungs_of, places_of}
+use Rattle.ladder.specs.Types.{rung_at, rung_count, place_count}
 use Rattle.std.proofs.lemmas.Float.{T_from_true}
 use Rattle.account.specs.declared.types.Tariff.{Tariff}
 use Rattle.account.specs.declared.types.State.{State}
-use Rattle.account.specs.State.{runs, time_of, wait_of}
-use Rattle.account.specs.Price.{full_air, wait_seconds}
+use Rattle.account.specs.State.{runs, since_of, wait_of}
+use Rattle.account.specs.Price.{full_air, wait_s}
 use Rattle.account.proofs.FullAir.{full_finite, full_natural}
 use Rattle.rules.specs.declared.types.Frame.{Frame}
-use Rattle.rules.specs.Echo.{out, usable, silent}
+use Rattle.rules.specs.Echo.{echo_out, usable, silent}
 use Rattle.rules.specs.Booking.{call_air}
 use Rattle.rules.specs.Tries.{decide}
 use Rattle.rules.specs.Transmission.{inside, observe_frames}
@@ -35,14 +35,14 @@ use Rattle.rules.proofs.Calm.{inside_given, decide_waits}
 use Rattle.rate.specs.declared.types.RateController.{RateController}
 use Rattle.rate.specs.declared.types.Answer.{Answer}
 use Rattle.rate.specs.Calls.{Call, Frames, Echo, Silence, Snr, Seed, Price, Family, verdict, accepted, step, after}
-use Rattle.waiting.specs.Waiting.{Fresh, fresh, taken, frames_of, carries, frame_call, frame_calls, call_airs, air_sent, bound, Quiet, Outbid, Throughout, Demand3}
+use Rattle.waiting.specs.Waiting.{Fresh, fresh, taken, carried_frames, carries, frame_call, frame_calls, call_airs, air_sent, bound, Quiet, Outbid, Throughout, Demand3}
 use Rattle.rate.proofs.Stepping.{accepted_says, accepted_step, by_verdict, table_kept}
 use Rattle.waiting.proofs.Deadline.{deadline, not_yet, waited}
 use Rattle.waiting.proofs.Sound.{Sound, call_natural, step_sound, after_sound, fresh_sound}
 use Rattle.waiting.proofs.Tries.{tries_end, marks_tell}
 
 -- ---- any call but a frame call leaves times and waits; none changes the table
-accepted_calm : (k : RateController) (c : Call) → carries (frames_of c) ≡ false → Untimed k.state (accepted k c).controller.state
+accepted_calm : (k : RateController) (c : Call) → carries (carried_frames c) ≡ false → Untimed k.state (accepted k c).controller.state
 unfolding accepted observe_frames silent
 accepted_calm k (Frames [] snr) e = (refl, refl)
 accepted_calm k (Frames (f ∷ fs) snr) e = absurd (subst T e tt)
@@ -55,8 +55,8 @@ accepted_calm k (Family own other) e = (refl, refl)
 
 calm : (k : RateController) (c : Call) → frame_call k c ≡ false → Untimed k.state (step k c).controller.state
 calm k c =
-    by_verdict k c (λ (a : Answer). (taken a.verdict && carries (frames_of c)) ≡ false → Untimed k.state a.controller.state)
-    (λ v e. accepted_calm k c (subst (λ (w : Verdict). (taken w && carries (frames_of c)) ≡ false) (accepted_says k c) e)) (λ why e. (refl, refl))
+    by_verdict k c (λ (a : Answer). (taken a.verdict && carries (carried_frames c)) ≡ false → Untimed k.state a.controller.state)
+    (λ v e. accepted_calm k c (subst (λ (w : Verdict). (taken w && carries (carried_frames c)) ≡ false) (accepted_says k c) e)) (λ why e. (refl, refl))
 
 -- a frame call carries a first frame, and was accepted
 data Carried (k : RateController) : Call → Type 0 where
@@ -64,10 +64,10 @@ data Carried (k : RateController) : Call → Type 0 where
 
 was_carried : (k : RateController) (c : Call) → T (frame_call k c) → Carried k c
 was_carried k c =
-    by_verdict k c (λ (a : Answer). T (taken a.verdict && carries (frames_of c)) → Carried k c)
-    (λ v h. go c v (subst (λ (w : Verdict). T (taken w && carries (frames_of c))) (accepted_says k c) h)) (λ why h. absurd h)
+    by_verdict k c (λ (a : Answer). T (taken a.verdict && carries (carried_frames c)) → Carried k c)
+    (λ v h. go c v (subst (λ (w : Verdict). T (taken w && carries (carried_frames c))) (accepted_says k c) h)) (λ why h. absurd h)
   where
-    go : (c : Call) → verdict k.table c ≡ Ok tt → T (carries (frames_of c)) → Carried k c
+    go : (c : Call) → verdict k.table c ≡ Ok tt → T (carries (carried_frames c)) → Carried k c
     go (Frames [] snr) v h = absurd h
     go (Frames (f ∷ fs) snr) v h = carried f fs snr v
     go (Echo share snr) v h = absurd h
@@ -79,22 +79,22 @@ was_carried k c =
 
 -- ---- a frame call of a run: the time of the rung u rises by the call's air a, its wait stays, and the time is short of it
 record Rises (u : ℕ) (k : RateController) (a : Float) (z : State) : Type 0 where
-  time : time_of z u ≡ time_of k.state u ⊕ a
+  time : since_of z u ≡ since_of k.state u ⊕ a
   wait : wait_of z u ≡ wait_of k.state u
-  early : T (lt (time_of z u) (deadline (wait_of k.state u) (full_air k.table k.prices.tariff u)))
+  early : T (lt (since_of z u) (deadline (wait_of k.state u) (full_air k.table k.prices.tariff u)))
 
 -- a place that is allowed exists, and its rung has an entry
-there : (k : RateController) → Sound k → (j : ℕ) → T (usable k.table k.state j) → (j < places_of k.table) × (rung_at k.table j < rungs_of k.table) × (rung_at k.table j < 32)
+there : (k : RateController) → Sound k → (j : ℕ) → T (usable k.table k.state j) → (j < place_count k.table) × (rung_at k.table j < rung_count k.table) × (rung_at k.table j < 32)
 there k s j h =
     let t = k.table in
-    let a : j < places_of t = ltb→lt j (places_of t) (and_l (ltb j (places_of t)) (not (out t k.state (rung_at t j))) h) in
+    let a : j < place_count t = ltb→lt j (place_count t) (and_l (ltb j (place_count t)) (not (echo_out t k.state (rung_at t j))) h) in
     let b = s.table.on_table j a in
     (a, b, omega arith)
 
 module _ (k : RateController) (s : Sound k) (i : ℕ) (p : Option Tariff) (here : Quiet i p k) where
   accepted_rises : (f : Frame) (fs : List Frame) (snr : Reading) → let c = Frames (f ∷ fs) snr in verdict k.table c ≡ Ok tt → Outbid i k c → Quiet i p (accepted k c).controller
       → Rises (rung_at k.table (suc i)) k (call_air (f ∷ fs)) (accepted k c).controller.state
-  unfolding accepted observe_frames wait_seconds
+  unfolding accepted observe_frames wait_s
   accepted_rises f fs snr e o next =
       let t = k.table in
       let u = rung_at t (suc i) in
@@ -106,21 +106,21 @@ module _ (k : RateController) (s : Sound k) (i : ℕ) (p : Option Tariff) (here 
       (record { place = next.choice_stays; no_try = next.no_try; choice_allowed = next.choice_allowed; above_allowed = next.above_allowed }) in
       let h : Ticks q = inside_ticks t k.prices s.table s.tariff k.state (f ∷ fs) snr (call_natural t (f ∷ fs) snr e) s.ticks in
       let x = full_air t k.prices.tariff u in
-      let l : T (lt (time_of q u) (deadline (wait_of q u) x)) =
-      not_yet (wait_of q u) x (wait_is q h u at.2) (full_finite t k.prices.tariff s.table s.tariff u at.1) (time_of q u) (time_natural q h u at.2) w.not_due in
-      let same : time_of z u ≡ time_of q u = ap (λ (l : List Float). get_or l u f0) w.since in
+      let l : T (lt (since_of q u) (deadline (wait_of q u) x)) =
+      not_yet (wait_of q u) x (wait_is q h u at.2) (full_finite t k.prices.tariff s.table s.tariff u at.1) (since_of q u) (time_natural q h u at.2) w.not_due in
+      let same : since_of z u ≡ since_of q u = ap (λ (l : List Float). get_or l u f0) w.since in
       record {
         time = same ∙ g.time;
         wait = ap (λ (l : List ℕ). get_or l u 6) w.wait ∙ g.wait;
-        early = subst (λ (y : Float). T (lt y (deadline (wait_of k.state u) x))) (sym same) (subst (λ (n : ℕ). T (lt (time_of q u) (deadline n x))) g.wait l);
+        early = subst (λ (y : Float). T (lt y (deadline (wait_of k.state u) x))) (sym same) (subst (λ (n : ℕ). T (lt (since_of q u) (deadline n x))) g.wait l);
       }
 
-  rises : (c : Call) → Carried k c → Outbid i k c → Quiet i p (step k c).controller → Rises (rung_at k.table (suc i)) k (call_air (frames_of c)) (step k c).controller.state
+  rises : (c : Call) → Carried k c → Outbid i k c → Quiet i p (step k c).controller → Rises (rung_at k.table (suc i)) k (call_air (carried_frames c)) (step k c).controller.state
   rises c (carried f fs snr v) o =
       subst (λ (a : Answer). Quiet i p a.controller → Rises (rung_at k.table (suc i)) k (call_air (f ∷ fs)) a.controller.state) (sym (accepted_step k (Frames (f ∷ fs) snr) v)) (accepted_rises f fs snr v o)
 
 -- ---- the airs are at least 0
-air_natural : (k : RateController) (c : Call) → Carried k c → natural (call_air (frames_of c))
+air_natural : (k : RateController) (c : Call) → Carried k c → natural (call_air (carried_frames c))
 air_natural k c (carried f fs snr v) = call_natural k.table (f ∷ fs) snr v
 
 airs_natural : (cs : List Call) (k : RateController) → Naturals (call_airs k cs)
@@ -131,7 +131,7 @@ airs_natural (c ∷ cs) k = go (frame_call k c) refl (airs_natural cs (step k c)
     rest : List Float
     rest = call_airs (step k c).controller cs
 
-    go : (b : Bool) → frame_call k c ≡ b → Naturals rest → Naturals (cond b (call_air (frames_of c) ∷ rest) rest)
+    go : (b : Bool) → frame_call k c ≡ b → Naturals rest → Naturals (cond b (call_air (carried_frames c) ∷ rest) rest)
     go true e h = (air_natural k c (was_carried k c (T_from_true _ e)), h)
     go false e h = h
 
@@ -150,7 +150,7 @@ module _ (t : Table) (i : ℕ) (p : Option Tariff) (w : ℕ) where
   end = deadline w (full_air t p u)
 
   abbrev time : RateController → Float
-  time k = time_of k.state u
+  time k = since_of k.state u
 
   goes : (cs : List Call) (k : RateController) → k.table ≡ t → wait_of k.state u ≡ w → Sound k → Throughout i p k cs
       → T (lt (time k) end) ⊎ (1 ≤ frame_calls k cs) → T (lt (total (time k) (call_airs k cs)) end)
@@ -172,10 +172,10 @@ module _ (t : Table) (i : ℕ) (p : Option Tariff) (w : ℕ) where
       Next : Type 0
       Next = wait_of later.state u ≡ w → T (lt (time later) end) ⊎ (1 ≤ n) → T (lt (total (time later) rest) end)
 
-      go : (b : Bool) → frame_call k c ≡ b → Next → T (lt (time k) end) ⊎ (1 ≤ cond b (suc n) n) → T (lt (total (time k) (cond b (call_air (frames_of c) ∷ rest) rest)) end)
+      go : (b : Bool) → frame_call k c ≡ b → Next → T (lt (time k) end) ⊎ (1 ≤ cond b (suc n) n) → T (lt (total (time k) (cond b (call_air (carried_frames c) ∷ rest) rest)) end)
       go true q next g =
-          let r : Rises u k (call_air (frames_of c)) later.state =
-          subst (λ (x : Table). Rises (rung_at x (suc i)) k (call_air (frames_of c)) later.state) e
+          let r : Rises u k (call_air (carried_frames c)) later.state =
+          subst (λ (x : Table). Rises (rung_at x (suc i)) k (call_air (carried_frames c)) later.state) e
           (rises k s i p h.0 c (was_carried k c (T_from_true _ q)) (h.1 (T_from_true _ q)) (first i p later cs h.2)) in
           let l1 = subst (λ (x : Table). T (lt (time later) (deadline (wait_of k.state u) (full_air x k.prices.tariff u)))) e r.early in
           let l2 = subst (λ (x : Option Tariff). T (lt (time later) (deadline (wait_of k.state u) (full_air t x u)))) h.0.prices_stay l1 in
@@ -199,7 +199,7 @@ runs_short k s run n h =
     let at = there k s (suc i) (first i p k run h).above_allowed in
     let w = wait_of k.state u in
     waited w (full_air t p u) (wait_is k.state s.ticks u at.2) (full_finite t p s.table s.tariff u at.1) (full_natural t p s.table s.tariff u at.1)
-    (call_airs k run) (time_of k.state u) (airs_natural run k) (time_natural k.state s.ticks u at.2) (goes t i p w run k refl refl s h (inr n))
+    (call_airs k run) (since_of k.state u) (airs_natural run k) (time_natural k.state s.ticks u at.2) (goes t i p w run k refl refl s h (inr n))
 
 fresh_idle : (k : RateController) → Fresh k → runs k.state.core.trying ≡ false
 fresh_idle k (fresh c wide e) = refl

@@ -30,30 +30,30 @@ taken (Ok _) = true
 taken (Err why) = false
 
 -- the frames that a call carries, and the SNR that comes with them
-abbrev pub frames_of : Call → List Frame
-frames_of (Frames fs snr) = fs
-frames_of (Echo share snr) = []
-frames_of (Silence steps) = []
-frames_of (Snr snr) = []
-frames_of (Seed snr) = []
-frames_of (Price floor ordinary gap bursts) = []
-frames_of (Family own other) = []
+abbrev pub carried_frames : Call → List Frame
+carried_frames (Frames fs snr) = fs
+carried_frames (Echo share snr) = []
+carried_frames (Silence steps) = []
+carried_frames (Snr snr) = []
+carried_frames (Seed snr) = []
+carried_frames (Price floor ordinary gap bursts) = []
+carried_frames (Family own other) = []
 
-abbrev pub snr_of : Call → Reading
-snr_of (Frames fs snr) = snr
-snr_of (Echo share snr) = None
-snr_of (Silence steps) = None
-snr_of (Snr snr) = None
-snr_of (Seed snr) = None
-snr_of (Price floor ordinary gap bursts) = None
-snr_of (Family own other) = None
+abbrev pub carried_snr : Call → Reading
+carried_snr (Frames fs snr) = snr
+carried_snr (Echo share snr) = None
+carried_snr (Silence steps) = None
+carried_snr (Snr snr) = None
+carried_snr (Seed snr) = None
+carried_snr (Price floor ordinary gap bursts) = None
+carried_snr (Family own other) = None
 
 abbrev pub carries : List Frame → Bool
 carries [] = false
 carries (f ∷ fs) = true
 
 abbrev pub frame_call : RateController → Call → Bool
-frame_call k c = taken (step k c).verdict && carries (frames_of c)
+frame_call k c = taken (step k c).verdict && carries (carried_frames c)
 
 -- how many of a list's calls are frame calls
 unfoldable pub frame_calls : RateController → List Call → ℕ
@@ -75,7 +75,7 @@ runs_after b k (c ∷ cs) = runs_after ((step k c).begun || b && not (step k c).
 -- ---- "the air sent in it": the call airs of the frame calls, in order; refused calls "add no air or frame"
 unfoldable pub call_airs : RateController → List Call → List Float
 call_airs k [] = []
-call_airs k (c ∷ cs) = let rest = call_airs (step k c).controller cs in cond (frame_call k c) (call_air (frames_of c) ∷ rest) rest
+call_airs k (c ∷ cs) = let rest = call_airs (step k c).controller cs in cond (frame_call k c) (call_air (carried_frames c) ∷ rest) rest
 
 -- "Call airs are added in order from 0.0"
 abbrev pub air_sent : RateController → List Call → Float
@@ -105,12 +105,12 @@ pub record Quiet (i : ℕ) (p : Option Tariff) (k : RateController) : Type 0 whe
 
 -- the state that `decide` is given at a frame call
 abbrev pub inside_decide : RateController → Call → State
-inside_decide k c = inside k.table k.prices k.state (frames_of c) (snr_of c)
+inside_decide k c = inside k.table k.prices k.state (carried_frames c) (carried_snr c)
 
 -- "at each frame call"
 pub record Outbid (i : ℕ) (k : RateController) (c : Call) : Type 0 where
   -- "no frame goes at that rung above"
-  pub none_above : T (not (sent (frames_of c) (rung_at k.table (suc i))))
+  pub none_above : T (not (sent (carried_frames c) (rung_at k.table (suc i))))
   -- "and its lossless price beats the choice's value"; "lossless price and value compared inside `decide`"
   pub lossless_beats : T (lt (value k.table k.prices (inside_decide k c) (rung_at k.table i)) (lossless_price k.table k.prices (rung_at k.table (suc i))))
 

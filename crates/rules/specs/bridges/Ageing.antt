@@ -3,7 +3,7 @@ use Rattle.std.specs.Prelude.{ℕ, zero, suc, cond, List, [], ◌∷◌, Float, 
 use Rattle.float.specs.Numbers.{◌⊘◌, f1}
 use Rattle.half.specs.Power.{half}
 use Rattle.ladder.specs.declared.types.Table.{Table}
-use Rattle.ladder.specs.Types.{rungs_of, in_table}
+use Rattle.ladder.specs.Types.{rung_count, in_table}
 use Rattle.account.specs.declared.types.Account.{Account}
 use Rattle.account.specs.State.{no_account}
 use Rattle.rules.specs.Booking.{Frame, f12, aged, gained}
@@ -17,7 +17,7 @@ aged_by (suc n) i by l = aged_by n (suc i) by (slice_set l i (aged (slice_index_
 -- a frame, by the factors given: all are aged, and the frame's own rung as it was before ages by one frame and gains
 unfoldable pub booked_by : Table → List Float → Frame → List Account → List Account
 booked_by t by f l =
-    let all = aged_by (rungs_of t) 0 by l in
+    let all = aged_by (rung_count t) 0 by l in
     cond (in_table t f.rung.0) (slice_set all f.rung.0 (gained f (aged (half (f1 ⊘ f12)) (slice_index_or l f.rung.0 no_account)))) all
 
 -- frames in order, each by the factors for its air

@@ -11,7 +11,7 @@ use Rattle.limits.specs.Readings.{Reading}
 use Rattle.ladder.specs.Lists.{tabulate}
 use Rattle.ladder.specs.declared.types.Rung.{Rung}
 use Rattle.ladder.specs.declared.types.Table.{Table}
-use Rattle.ladder.specs.Types.{rung, row, rung_at, rungs_of, places_of, is_floor}
+use Rattle.ladder.specs.Types.{rung, row, rung_at, rung_count, place_count, is_floor}
 use Rattle.account.specs.State.{Mark, Trying}
 use Rattle.account.specs.declared.types.Offsets.{Offsets}
 use Rattle.account.specs.declared.types.Prices.{Prices}
@@ -40,19 +40,19 @@ fade_at air time last = cond (lt f0 last.time && eq time last.time) last (record
 
 -- the factors of all rungs in use are those for a frame of so much air
 abbrev pub Fading : Table → Float → Fades → Type 0
-Fading t air d = (r : ℕ) → r < rungs_of t → slice_index_or d.by r f1 ≡ factor air (row t r).time
+Fading t air d = (r : ℕ) → r < rung_count t → slice_index_or d.by r f1 ≡ factor air (row t r).time
 
 -- and those kept since a frame are those of its air, if there was one
 abbrev pub Kept : Table → Fades → Type 0
 Kept t d = T (lt f0 d.air) → Fading t d.air d
 
 -- the factors of the rungs in use for a frame of so much air, over those that stood there
-unfoldable pub filled : Table → Float → Fades → Fades
-filled t air d = record { by = tabulate (rungs_of t) 0 (λ r. factor air (row t r).time) ++ drop (rungs_of t) d.by; air = air }
+unfoldable pub fades_for : Table → Float → Fades → Fades
+fades_for t air d = record { by = tabulate (rung_count t) 0 (λ r. factor air (row t r).time) ++ drop (rung_count t) d.by; air = air }
 
 -- the factors for a frame's air: those kept where it is the air that they are for
 unfoldable pub turned : Table → Float → Fades → Fades
-turned t air d = cond (lt f0 d.air && eq air d.air) d (filled t air d)
+turned t air d = cond (lt f0 d.air && eq air d.air) d (fades_for t air d)
 
 abbrev pub turned_all : Table → Fades → List Frame → Fades
 turned_all t = foldl (λ d f. turned t f.air d)
@@ -126,7 +126,7 @@ finish_core t c y =
 
 -- what it leaves of the state, the accounts being booked already
 unfoldable pub finish_pass : Table → State → Pass → State
-finish_pass t s y = record s { since = passed (places_of t) 0 t y.air s.since; core = finish_core t s.core y }
+finish_pass t s y = record s { since = passed (place_count t) 0 t y.air s.since; core = finish_core t s.core y }
 
 -- then the rungs sent are judged, a running try is counted, and `decide` has the last word
 abbrev pub judged_pass : Table → Prices → State → Pass → State

@@ -8,5 +8,5 @@ use Rattle.account.specs.declared.types.Prices.{Prices}
 use Rattle.account.specs.declared.types.State.{State}
 use Rattle.account.specs.Price.{priced, estimate_at}
 
-abbrev pub worth_at : Table → Prices → State → Reading → ℕ → Float
-worth_at t p s snr i = priced t p (rung_at t i) (estimate_at t s (rung_at t i) snr)
+abbrev pub place_value : Table → Prices → State → Reading → ℕ → Float
+place_value t p s snr i = priced t p (rung_at t i) (estimate_at t s (rung_at t i) snr)

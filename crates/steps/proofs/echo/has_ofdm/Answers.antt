@@ -3,7 +3,7 @@ use Rattle.std.proofs.Common.{not, ◌∙◌, Bool, ltb, take, rules}
 use Rattle.std.proofs.lemmas.Iterator.{YieldsList-from_slice}
 use Rattle.std.proofs.lemmas.Iterator.Search.{any_from_yields_List}
 use Rattle.ladder.specs.declared.types.Rung.{Rung}
-use Rattle.ladder.specs.Types.{places_of}
+use Rattle.ladder.specs.Types.{place_count}
 use Rattle.steps.proofs.Front.{any_on_front}
 use Rattle.steps.proofs.echo.has_ofdm.Goals as goal
 
@@ -11,4 +11,4 @@ pub returns : goal.returns
 returns c =
     let t = c.args.t.now in
     let test : Rung → Bool = λ r. not (ltb r.0 t.air.floors) in
-    any_from_yields_List test _ _ _ c.any.ensures.ran (YieldsList-from_slice (take (places_of t) t.front.rungs) (cc)) (λ x b q k. search rules) ∙ any_on_front t (rw c.front.ensures.rungs at c.front.ensures.count) test
+    any_from_yields_List test _ _ _ c.any.ensures.ran (YieldsList-from_slice (take (place_count t) t.front.rungs) (cc)) (λ x b q k. search rules) ∙ any_on_front t (rw c.front.ensures.rungs at c.front.ensures.count) test
