@@ -1,11 +1,12 @@
 -- "Accounts, prior and price". Definitions only.
 use Rattle.std.specs.Prelude.{ℕ, Bool, cond, Option, None, Some, unwrap_or, ◌==◌, nat_lt, slice_index, Float}
-use Rattle.float.specs.Numbers.{◌⊕◌, ◌⊖◌, ◌⊗◌, ◌⊘◌, of_nat, f0, f½, f2}
+use Rattle.float.specs.Numbers.{◌⊕◌, ◌⊖◌, ◌⊗◌, ◌⊘◌, of_nat, f0}
 use Rattle.half.specs.Logistic.{decode_probability}
 use Rattle.limits.specs.Readings.{Reading}
 use Rattle.ladder.specs.declared.types.Row.{Row}
 use Rattle.ladder.specs.declared.types.Table.{Table}
 use Rattle.ladder.specs.Types.{row, is_floor}
+use Rattle.account.specs.Fixed.{prior_weight, slope}
 use Rattle.account.specs.State.{Account, Families, Tariff, Prices, State, account, wait_of}
 
 -- ---- prior and estimate
@@ -15,7 +16,7 @@ offset t s r = cond (is_floor t r) s.core.offsets.floor s.core.offsets.ofdm
 
 -- "probability at SNR - family offset - margin"; "slope 0.5"
 abbrev pub prior_p_at : Float → Float → Float → Float → Float
-prior_p_at threshold margin off snr = decode_probability (snr ⊖ off ⊖ margin) threshold f½
+prior_p_at threshold margin off snr = decode_probability (snr ⊖ off ⊖ margin) threshold slope
 
 unfoldable pub prior_p : Table → ℕ → Float → Float → Float
 prior_p t r off snr = prior_p_at (row t r).threshold t.air.margin off snr
@@ -30,7 +31,7 @@ prior t r off snr = prior_of (row t r) t.air.margin off snr
 
 -- "Estimate = (bytes + 2 × prior)/(air + 2 × frame time)"
 abbrev pub estimate_by : Account → Float → Float → Float
-estimate_by a prior time = (a.bytes ⊕ f2 ⊗ prior) ⊘ (a.air ⊕ f2 ⊗ time)
+estimate_by a prior time = (a.bytes ⊕ prior_weight ⊗ prior) ⊘ (a.air ⊕ prior_weight ⊗ time)
 
 -- at an SNR
 unfoldable pub estimate_at : Table → State → ℕ → Reading → Float

@@ -5,6 +5,7 @@ use Rattle.limits.specs.Readings.{Reading}
 use Rattle.ladder.specs.declared.types.Table.{Table}
 use Rattle.ladder.specs.declared.types.Rung.{Rung}
 use Rattle.ladder.specs.Types.{rung_at, place}
+use Rattle.account.specs.Fixed.{first_wait}
 pub use Rattle.account.specs.declared.types.Account.{Account}
 pub use Rattle.account.specs.declared.types.Try.{Try}
 pub use Rattle.account.specs.declared.types.Families.{Families}
@@ -43,7 +44,7 @@ abbrev pub since_of : State → ℕ → Float
 since_of s r = slice_index_or s.since r f0
 
 abbrev pub wait_of : State → ℕ → ℕ
-wait_of s r = slice_index_or s.wait r 6
+wait_of s r = slice_index_or s.wait r first_wait
 
 -- the chosen rung: "choice is held as a place, accounts go by rung"
 abbrev pub choice : Table → State → ℕ
@@ -90,6 +91,10 @@ with_echo s x = with_core s (core_with_echo s.core x)
 abbrev pub with_place : State → ℕ → State
 with_place s i = with_core s (core_with_place s.core i)
 
+-- a running try, if one runs, is off
+abbrev pub cancel_try : State → State
+cancel_try s = with_trying s None
+
 -- ---- fresh
 abbrev pub fresh_core : Core
 fresh_core = record {
@@ -104,7 +109,7 @@ fresh_core = record {
 
 -- "`None` accounts, times and waits: zero account, 0.0, 6."
 abbrev pub fresh_state : State
-fresh_state = record { accounts = replicate 32 no_account; since = replicate 32 f0; wait = replicate 32 6; core = fresh_core }
+fresh_state = record { accounts = replicate 32 no_account; since = replicate 32 f0; wait = replicate 32 first_wait; core = fresh_core }
 
 abbrev pub unpriced : Prices
 unpriced = record { tariff = None; families = None }

@@ -2,14 +2,10 @@
 ghost use Rattle.std.specs.Prelude.{◌≡◌};
 ghost use Rattle.account.specs.Price.{offset, prior_p, prior, estimate_at, estimate, lossless, burst, control, overhead_of, priced, value, lossless_price, full_air, wait_s};
 
+use crate::fixed::{PRIOR_FRAMES, SLOPE_DB};
 use crate::types::{Families, State, Tariff, Terms};
 use ladder::types::{Rung, Table};
 use limits::reading::Reading;
-
-// The prior's weight, in frames, and the logistic's slope, in dB.
-const PRIOR_FRAMES: f64 = 2.0;
-
-const SLOPE_DB: f64 = 0.5;
 
 // ---- prior and estimate
 // How far a rung is read under the SNR: its family's offset.

@@ -1,12 +1,10 @@
 // How the state is read, changed and fresh. Outside the arrays the source's own defaults are read, and nothing is stored, so each function is total.
 ghost use Rattle.std.specs.Prelude.{◌≡◌, not, ◌&&◌, ◌||◌, is_some, slice_set};
-ghost use Rattle.account.specs.State.{account, since_of, wait_of, choice, with_since, with_wait};
+ghost use Rattle.account.specs.State.{account, since_of, wait_of, choice, with_since, with_wait, cancel_try};
 
+use crate::fixed::PROBE_EVERY;
 use crate::types::{Account, Core, Offsets, State, Try};
 use ladder::types::{Place, Rung, Table};
-
-// The shortest wait before a rung is tried, in full transmissions.
-pub const PROBE_EVERY: u32 = 6;
 
 impl Account {
     // The account of a rung never sent at, or outside the table.
@@ -40,7 +38,7 @@ impl State {
             .unwrap_or(Account::NONE)
     }
 
-    // A rung's time since its try, in seconds of air.
+    // A rung's time since its last try, in seconds of air.
     pub fn since(&self, r: Rung) -> f64
         ensures { result ≡ since_of self.now r.0 }
     {
@@ -76,6 +74,15 @@ impl State {
 }
 
 // ---- the running try
+impl State {
+    // A running try, if one runs, is off.
+    pub fn cancel_try(&mut self)
+        ensures { self.new ≡ cancel_try self.old }
+    {
+        self.core.trying = None;
+    }
+}
+
 // Whether a try that ran before does not run on: none runs, or another was begun.
 pub fn was_ended(before: Option<Try>, after: Option<Try>, begun: bool) -> bool
     ensures { result ≡ (is_some before && (begun || not (is_some after))) }

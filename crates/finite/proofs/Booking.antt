@@ -8,7 +8,7 @@ use native.Mathlib.Omega.{arith}
 use lib.Dec.{T, leb→le}
 use lib.ListN.{get_or, set}
 use lib.Ieee.{Float, of_bits, of_int, round, neg, add, sub, mul, div, le, lt}
-use Rattle.float.specs.Numbers.{f64, ◌⊕◌, ◌⊖◌, ◌⊗◌, ◌⊘◌, of_nat, f0, f1, f5, f20}
+use Rattle.float.specs.Numbers.{f64, ◌⊕◌, ◌⊖◌, ◌⊗◌, ◌⊘◌, of_nat, f0, f1}
 use Rattle.float.specs.Sum.{total}
 use Rattle.float.proofs.Order.{number, not_lt}
 use Rattle.float.proofs.Rounding.{zero64}
@@ -29,13 +29,14 @@ use Rattle.account.specs.declared.types.State.{State}
 use Rattle.account.specs.State.{no_account}
 use Rattle.account.specs.Price.{prior_p}
 use Rattle.rules.specs.declared.types.Frame.{Frame}
-use Rattle.rules.specs.Booking.{at, clamp, moved, offset_step, offsets_from, offsets_at, offsets_after, f12, aged, gained, book_one, book_frame, book, airs, call_air, passed, booked}
+use Rattle.account.specs.Fixed.{half_life, least_offset, most_offset}
+use Rattle.rules.specs.Booking.{at, clamp, moved, offset_step, offsets_from, offsets_at, offsets_after, aged, gained, book_one, book_frame, book, airs, call_air, passed, booked}
 use Rattle.rules.specs.Check.{frame_verdict, first_bad}
 use Rattle.rules.proofs.Fade.{own_fade_lem}
 use Rattle.waiting.proofs.Sound.{frame_ok}
 use Rattle.finite.proofs.Ranges.{Range, ◌to◌, In, bounded, first, second, third, in_by, in_number, in_natural, widen, holds, ◌⊞◌, ◌⊠◌, ◌÷◌, scaled, sums, differences, products, quotients, scales, sum_in, difference_in, product_in, quotient_in, scaled_in, counts}
 use Rattle.finite.proofs.Bounds.{decibels, air_times, account_bytes, account_air, account_frames, capacities, shares, offsets, surprises, times, TableIn, AccountIn, OffsetsIn, Held, all_any}
-use Rattle.finite.proofs.Values.{share_in, chance_in, no_account_in}
+use Rattle.finite.proofs.Values.{share_in, prior_p_in, no_account_in}
 
 -- ---- frames that are accepted
 pub record FrameIn (f : Frame) : Type 0 where
@@ -61,7 +62,7 @@ own_ends : In own own_fade × T (holds shares own)
 unfolding of_bits le
 own_ends = (tt, tt)
 
-own_in : In own (half (f1 ⊘ f12))
+own_in : In own (half (f1 ⊘ half_life))
 own_in = subst (In own) (sym own_fade_lem) own_ends.0
 
 -- a quantity of an account, with what it gains at a time: ageing keeps its range a, and so does the gain g after the own rung's ageing
@@ -72,10 +73,10 @@ module _ (a g : Range) (e : T (lasts a g)) (x : Float) (h : In a x) where
   aged_in : (d : Float) → In shares d → In a (x ⊗ d)
   aged_in d k = product_in a shares a x d h k (first (products a shares a) (products a own (a ⊠ own)) (sums (a ⊠ own) g a) e)
 
-  refilled_in : (y : Float) → In g y → In a (x ⊗ half (f1 ⊘ f12) ⊕ y)
+  refilled_in : (y : Float) → In g y → In a (x ⊗ half (f1 ⊘ half_life) ⊕ y)
   refilled_in y k =
-      sum_in (a ⊠ own) g a (x ⊗ half (f1 ⊘ f12)) y
-      (product_in a own (a ⊠ own) x (half (f1 ⊘ f12)) h own_in (second (products a shares a) (products a own (a ⊠ own)) (sums (a ⊠ own) g a) e)) k
+      sum_in (a ⊠ own) g a (x ⊗ half (f1 ⊘ half_life)) y
+      (product_in a own (a ⊠ own) x (half (f1 ⊘ half_life)) h own_in (second (products a shares a) (products a own (a ⊠ own)) (sums (a ⊠ own) g a) e)) k
       (third (products a shares a) (products a own (a ⊠ own)) (sums (a ⊠ own) g a) e)
 
 account_ends : T (lasts account_bytes capacities) × T (lasts account_air air_times) × T (lasts account_frames (f1 to f1)) × In (f1 to f1) f1
@@ -89,28 +90,28 @@ account_aged d a k h = record {
   frames = aged_in account_frames (f1 to f1) account_ends.2 a.frames h.frames d k;
 }
 
-account_gained : (f : Frame) (a : Account) → FrameIn f → AccountIn a → AccountIn (gained f (aged (half (f1 ⊘ f12)) a))
+account_gained : (f : Frame) (a : Account) → FrameIn f → AccountIn a → AccountIn (gained f (aged (half (f1 ⊘ half_life)) a))
 account_gained f a k h = record {
   bytes = pick (In account_bytes) f.decoded
       (refilled_in account_bytes capacities account_ends.0 a.bytes h.bytes (of_nat f.capacity) (counts 0 f.capacity 4096 (omega arith) k.capacity))
-      (aged_in account_bytes capacities account_ends.0 a.bytes h.bytes (half (f1 ⊘ f12)) (widen own shares (half (f1 ⊘ f12)) own_ends.1 own_in));
+      (aged_in account_bytes capacities account_ends.0 a.bytes h.bytes (half (f1 ⊘ half_life)) (widen own shares (half (f1 ⊘ half_life)) own_ends.1 own_in));
   air = refilled_in account_air air_times account_ends.1 a.air h.air f.air k.air;
   frames = refilled_in account_frames (f1 to f1) account_ends.2 a.frames h.frames f1 account_ends.3;
 }
 
 -- the others age by a half-power, which is a share
 abbrev ageings : Range
-ageings = air_times ÷ scaled f12 air_times
+ageings = air_times ÷ scaled half_life air_times
 
-fade_ends : T (scales f12 air_times (scaled f12 air_times)) × T (quotients air_times (scaled f12 air_times) ageings) × T (le zero64 ageings.lo)
+fade_ends : T (scales half_life air_times (scaled half_life air_times)) × T (quotients air_times (scaled half_life air_times) ageings) × T (le zero64 ageings.lo)
 unfolding of_bits mul div le
 fade_ends = (tt, tt, tt)
 
-fade_in : (air time : Float) → In air_times air → In air_times time → In shares (half (air ⊘ (f12 ⊗ time)))
+fade_in : (air time : Float) → In air_times air → In air_times time → In shares (half (air ⊘ (half_life ⊗ time)))
 fade_in air time h k =
-    let x = air ⊘ (f12 ⊗ time) in
+    let x = air ⊘ (half_life ⊗ time) in
     share_in (half x) (half_share x (in_natural ageings x fade_ends.2
-    (quotient_in air_times (scaled f12 air_times) ageings air (f12 ⊗ time) h (scaled_in f12 air_times (scaled f12 air_times) time k fade_ends.0) fade_ends.1)))
+    (quotient_in air_times (scaled half_life air_times) ageings air (half_life ⊗ time) h (scaled_in half_life air_times (scaled half_life air_times) time k fade_ends.0) fade_ends.1)))
 
 module _ (t : Table) (ts : TableIn t) where
   book_frame_in : (n r : ℕ) (f : Frame) (accounts : List Account) → FrameIn f → All AccountIn accounts → All AccountIn (book_frame n r t f accounts)
@@ -121,7 +122,7 @@ module _ (t : Table) (ts : TableIn t) where
       let b = all_any AccountIn accounts r no_account h no_account_in in
       book_frame_in n (suc r) f (set accounts r (book_one t f r a)) k
       (all_set AccountIn accounts r (book_one t f r a) h (λ g.
-      pick AccountIn (at r f) (account_gained f a k b) (account_aged (half (f.air ⊘ (f12 ⊗ (row t r).time))) a (fade_in f.air (row t r).time k.air (ts.rows r).time) b)))
+      pick AccountIn (at r f) (account_gained f a k b) (account_aged (half (f.air ⊘ (half_life ⊗ (row t r).time))) a (fade_in f.air (row t r).time k.air (ts.rows r).time) b)))
 
   book_in : (fs : List Frame) (accounts : List Account) → All FrameIn fs → All AccountIn accounts → All AccountIn (book t fs accounts)
   unfolding book
@@ -129,14 +130,14 @@ module _ (t : Table) (ts : TableIn t) where
   book_in (f ∷ fs) accounts k h = book_in fs (book_frame (rung_count t) 0 t f accounts) k.1 (book_frame_in (rung_count t) 0 f accounts k.0 h)
 
 -- ---- offsets
-clamp_ends : T (number (neg f5)) × T (number f20) × In offsets (neg f5) × In offsets f20
+clamp_ends : T (number least_offset) × T (number most_offset) × In offsets least_offset × In offsets most_offset
 unfolding of_bits neg le
 clamp_ends = (tt, tt, tt, tt)
 
 clamp_in : (x : Float) → T (number x) → In offsets (clamp x)
 clamp_in x n =
-    cond_both (lt x (neg f5)) _ _ (In offsets) (λ e. clamp_ends.2)
-    (λ e. cond_both (lt f20 x) _ _ (In offsets) (λ d. clamp_ends.3) (λ d. in_by offsets x (not_lt x (neg f5) n clamp_ends.0 (T_from_false _ e)) (not_lt f20 x clamp_ends.1 n (T_from_false _ d))))
+    cond_both (lt x least_offset) _ _ (In offsets) (λ e. clamp_ends.2)
+    (λ e. cond_both (lt most_offset x) _ _ (In offsets) (λ d. clamp_ends.3) (λ d. in_by offsets x (not_lt x least_offset n clamp_ends.0 (T_from_false _ e)) (not_lt most_offset x clamp_ends.1 n (T_from_false _ d))))
 
 move_ends : T (differences shares shares surprises) × T (sums offsets surprises (offsets ⊞ surprises)) × T (bounded (offsets ⊞ surprises)) × In shares f0 × In shares f1
 unfolding of_bits neg add sub le
@@ -150,7 +151,7 @@ module _ (t : Table) (ts : TableIn t) (snr : Float) (hs : In decibels snr) where
       let p = prior_p t r off snr in
       let y = p ⊖ cond f.decoded f1 f0 in
       let g = scaled_in t.air.gain surprises surprises y
-      (difference_in shares shares surprises p (cond f.decoded f1 f0) (chance_in (row t r).threshold t.air.margin off snr (ts.rows r).threshold ts.margin h hs)
+      (difference_in shares shares surprises p (cond f.decoded f1 f0) (prior_p_in (row t r).threshold t.air.margin off snr (ts.rows r).threshold ts.margin h hs)
       (pick (In shares) f.decoded move_ends.4 move_ends.3) move_ends.0)
       ts.moves in
       clamp_in (off ⊕ t.air.gain ⊗ y) (in_number (offsets ⊞ surprises) (off ⊕ t.air.gain ⊗ y) move_ends.2 (sum_in offsets surprises (offsets ⊞ surprises) off (t.air.gain ⊗ y) h g move_ends.1))

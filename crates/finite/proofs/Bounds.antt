@@ -7,7 +7,7 @@ use lib.Dec.{T, ltb, leb→le}
 use lib.ListN.{length, get_or}
 use lib.Ieee.{Float, of_bits, neg, mul, le}
 use lib.Ieee.Fits.{and_l, and_r}
-use Rattle.float.specs.Numbers.{of_nat, f0, f1, f5, f20}
+use Rattle.float.specs.Numbers.{of_nat, f0, f1}
 use Rattle.limits.specs.Values.{f200, f60, milli, ok_db, ok_air, ok_bytes}
 use Rattle.std.specs.Prelude.{Ok, None, Some, Option}
 use Rattle.limits.specs.Readings.{Reading, ok_limit, ok_snr}
@@ -20,12 +20,13 @@ use Rattle.std.proofs.lemmas.Float.{T_from_true}
 use Rattle.ladder.proofs.Cases.{pick}
 use Rattle.ladder.proofs.Entries.{All}
 use Rattle.ladder.proofs.Accepted.{accepted_columns, Within, table_values}
+use Rattle.account.specs.Fixed.{least_offset, most_offset}
 use Rattle.account.specs.declared.types.Account.{Account}
 use Rattle.account.specs.declared.types.Offsets.{Offsets}
 use Rattle.account.specs.declared.types.Tariff.{Tariff}
 use Rattle.account.specs.declared.types.State.{State}
 use Rattle.account.proofs.FullAir.{TariffSound, IsWait}
-use Rattle.finite.specs.Finite.{most_bytes, most_air, most_frames, longest}
+use Rattle.finite.specs.Finite.{most_bytes, most_air, most_frames, longest_time}
 use Rattle.finite.proofs.Ranges.{Range, ◌to◌, In, scales}
 
 -- ---- the ranges. `In` of `decibels`, `air_times`, `lengths` and `shares` is `ok_db`, `ok_air`, `ok_length` and `ok_share`
@@ -57,14 +58,14 @@ abbrev pub margins : Range
 margins = f0 to prior_margin
 
 abbrev pub offsets : Range
-offsets = neg f5 to f20
+offsets = least_offset to most_offset
 
 -- what a probability less 0 or 1 comes to, and what a family's gain makes of it
 abbrev pub surprises : Range
 surprises = neg f1 to f1
 
 abbrev pub times : Range
-times = f0 to longest
+times = f0 to longest_time
 
 -- ---- what holds of each number
 pub record RowIn (a : Row) : Type 0 where

@@ -13,6 +13,7 @@ use Rattle.ladder.specs.declared.types.Table.{Table}
 use Rattle.ladder.specs.Types.{row, rung_at, place_count}
 use Rattle.ladder.proofs.Cases.{pick}
 use Rattle.ladder.proofs.Entries.{All, all_set}
+use Rattle.account.specs.Fixed.{echo_floor}
 use Rattle.account.specs.State.{Trying, wait_of, choice, with_since, with_wait, with_trying, with_place, with_snr, with_echo}
 use Rattle.account.specs.declared.types.Prices.{Prices}
 use Rattle.account.specs.declared.types.State.{State}
@@ -69,8 +70,8 @@ set_snr s x h k = record { accounts = h.accounts; since = h.since; wait = h.wait
 set_echo : (s : State) (x : Reading) → Held s → T (ok_limit x) → Held (with_echo s x)
 set_echo s x h k = record { accounts = h.accounts; since = h.since; wait = h.wait; snr = h.snr; echo = k; offsets = h.offsets }
 
-set_time : (s : State) (r : ℕ) (x : Float) → Held s → In times x → Held (with_since s r x)
-set_time s r x h k = record { accounts = h.accounts; since = all_set (In times) s.since r x h.since (λ g. k); wait = h.wait; snr = h.snr; echo = h.echo; offsets = h.offsets }
+set_since : (s : State) (r : ℕ) (x : Float) → Held s → In times x → Held (with_since s r x)
+set_since s r x h k = record { accounts = h.accounts; since = all_set (In times) s.since r x h.since (λ g. k); wait = h.wait; snr = h.snr; echo = h.echo; offsets = h.offsets }
 
 set_wait : (s : State) (r w : ℕ) → Held s → IsWait w → Held (with_wait s r w)
 set_wait s r w h k = record { accounts = h.accounts; since = h.since; wait = all_set IsWait s.wait r w h.wait (λ g. k); snr = h.snr; echo = h.echo; offsets = h.offsets }
@@ -81,7 +82,7 @@ snr_held s x k h = set_snr s (smooth_snr s.core.snr x) h (snr_in s.core.snr x h.
 
 pub echo_held : (t : Table) (p : Prices) (s : State) (x snr : Float) → T (ok_share x) → Held s → Held (observe_echo t p s (Some x) snr)
 unfolding observe_echo
-echo_held t p s x snr k h = pick Held (lt snr (neg (f64 0x4018_0000_0000_0000))) h (heard (with_echo s (smooth_echo s.core.echo x)) (set_echo s (smooth_echo s.core.echo x) h (echo_in s.core.echo x h.echo k)))
+echo_held t p s x snr k h = pick Held (lt snr echo_floor) h (heard (with_echo s (smooth_echo s.core.echo x)) (set_echo s (smooth_echo s.core.echo x) h (echo_in s.core.echo x h.echo k)))
   where
     off : (m : State) (y : Trying) → Held m → Held (end_if_out t m y)
     off m None g = g
@@ -103,7 +104,7 @@ judge_held : (t : Table) (p : Prices) (s : State) (r : ℕ) → Held s → Held 
 unfolding judge_try
 judge_held t p s r h =
     let w = min 48 (2 * wait_of s r) in
-    pick Held (better t p s r) (set_wait s r 6 h (omega arith)) (set_time (with_wait s r w) r f0 (set_wait s r w h (omega arith)) zero_time)
+    pick Held (better t p s r) (set_wait s r 6 h (omega arith)) (set_since (with_wait s r w) r f0 (set_wait s r w h (omega arith)) zero_time)
 
 sent_held : (t : Table) (p : Prices) (fs : List Frame) (s : State) (r : ℕ) → Held s → Held (judge_if_sent t p fs s r)
 unfolding judge_if_sent
@@ -138,7 +139,7 @@ module _ (t : Table) (p : Prices) (ts : TableIn t) (ps : TariffIn p.tariff) wher
   full_held s h =
       let up = suc s.core.place.0 in
       let r = rung_at t up in
-      pick Held (usable t s up) (set_time s r (wait_s t p.tariff s r) h (wait_in s r h)) h
+      pick Held (usable t s up) (set_since s r (wait_s t p.tariff s r) h (wait_in s r h)) h
 
   won_held : (s : State) (r : ℕ) → Held s → Held (won t p s r)
   unfolding won
@@ -169,7 +170,7 @@ module _ (t : Table) (p : Prices) (ts : TableIn t) (ps : TariffIn p.tariff) wher
   decide_held s h = go (choose t p s)
     where
       decided : (m : State) (y : Trying) → Held m → Held (decide_try t p m y).state
-      decided m None k = pick (λ (d : Decided). Held d.state) (begins t p m) (set_time m (above t m) f0 k zero_time) k
+      decided m None k = pick (λ (d : Decided). Held d.state) (begins t p m) (set_since m (above t m) f0 k zero_time) k
       decided m (Some y) k = pick Held (usable t m (suc m.core.place.0) && eqb (above t m) y.rung.0) k k
 
       go : (b : Best) → Held (decide_at t p s b).state

@@ -6,7 +6,7 @@ use native.Mathlib.Omega.{arith}
 use lib.Dec.{T, leb, ltb, eqb, leb→le, ltb→lt, lt→ltb, nleb→lt}
 use lib.Ieee.{Float, of_bits, of_int, round, neg, add, sub, mul, div, le, lt}
 use lib.Ieee.Positive.{positive}
-use Rattle.float.specs.Numbers.{◌⊕◌, ◌⊖◌, ◌⊗◌, of_nat, f0, f½, f2}
+use Rattle.float.specs.Numbers.{◌⊕◌, ◌⊖◌, ◌⊗◌, of_nat, f0}
 use Rattle.float.proofs.Order.{number}
 use Rattle.float.proofs.Share.{Share}
 use Rattle.half.proofs.Range.{probability_share, from_share}
@@ -23,6 +23,7 @@ use Rattle.account.specs.declared.types.Families.{Families}
 use Rattle.account.specs.declared.types.Tariff.{Tariff}
 use Rattle.account.specs.declared.types.Prices.{Prices}
 use Rattle.account.specs.declared.types.State.{State}
+use Rattle.account.specs.Fixed.{prior_weight, slope, enough_frames}
 use Rattle.account.specs.State.{no_account, account, choice}
 use Rattle.account.specs.Price.{offset, prior_p_at, prior_of, estimate_by, estimate_at, lossless, own_floor, other_floor, control, burst_or, overhead_of, priced_of, priced_by, priced, value, lossless_price}
 use Rattle.account.proofs.FullAir.{bursts_small}
@@ -43,16 +44,16 @@ less_offset = decibels ⊟ offsets
 abbrev less_margin : Range
 less_margin = less_offset ⊟ margins
 
-chance_ends : T (differences decibels offsets less_offset) × T (differences less_offset margins less_margin) × T (bounded less_margin) × T (bounded decibels) × T (positive f½)
+prior_p_ends : T (differences decibels offsets less_offset) × T (differences less_offset margins less_margin) × T (bounded less_margin) × T (bounded decibels) × T (positive slope)
 unfolding of_bits neg sub le
-chance_ends = (tt, tt, tt, tt, tt)
+prior_p_ends = (tt, tt, tt, tt, tt)
 
-pub chance_in : (threshold margin off snr : Float) → In decibels threshold → In margins margin → In offsets off → In decibels snr → In shares (prior_p_at threshold margin off snr)
-chance_in threshold margin off snr ht hm ho hs =
+pub prior_p_in : (threshold margin off snr : Float) → In decibels threshold → In margins margin → In offsets off → In decibels snr → In shares (prior_p_at threshold margin off snr)
+prior_p_in threshold margin off snr ht hm ho hs =
     let x = snr ⊖ off in
-    let y = difference_in less_offset margins less_margin x margin (difference_in decibels offsets less_offset snr off hs ho chance_ends.0) hm chance_ends.1 in
+    let y = difference_in less_offset margins less_margin x margin (difference_in decibels offsets less_offset snr off hs ho prior_p_ends.0) hm prior_p_ends.1 in
     share_in (prior_p_at threshold margin off snr)
-    (probability_share (x ⊖ margin) threshold f½ (in_number less_margin (x ⊖ margin) chance_ends.2 y) (in_finite decibels threshold chance_ends.3 ht) chance_ends.4)
+    (probability_share (x ⊖ margin) threshold slope (in_number less_margin (x ⊖ margin) prior_p_ends.2 y) (in_finite decibels threshold prior_p_ends.3 ht) prior_p_ends.4)
 
 -- ---- the prior
 abbrev priors : Range
@@ -66,7 +67,7 @@ prior_in_lem : (a : Row) (margin off : Float) (snr : Reading) → RowIn a → In
 prior_in_lem a margin off None h hm ho hs = prior_ends.1
 prior_in_lem a margin off (Some snr) h hm ho hs =
     product_in capacities shares priors (of_nat a.capacity) (prior_p_at a.threshold margin off snr)
-    (counts 0 a.capacity 4096 (omega arith) h.capacity) (chance_in a.threshold margin off snr h.threshold hm ho hs) prior_ends.0
+    (counts 0 a.capacity 4096 (omega arith) h.capacity) (prior_p_in a.threshold margin off snr h.threshold hm ho hs) prior_ends.0
 
 -- ---- the estimate
 abbrev rates : Range
@@ -74,10 +75,10 @@ rates = f0 to most_rate
 
 -- twice a prior and a frame time, and with an account's bytes and air
 abbrev twice_prior : Range
-twice_prior = scaled f2 priors
+twice_prior = scaled prior_weight priors
 
 abbrev twice_time : Range
-twice_time = scaled f2 air_times
+twice_time = scaled prior_weight air_times
 
 abbrev delivered : Range
 delivered = account_bytes ⊞ twice_prior
@@ -85,15 +86,15 @@ delivered = account_bytes ⊞ twice_prior
 abbrev spent : Range
 spent = account_air ⊞ twice_time
 
-estimate_ends : T (scales f2 priors twice_prior) × T (sums account_bytes twice_prior delivered) × T (scales f2 air_times twice_time) × T (sums account_air twice_time spent) × T (quotients delivered spent rates)
+estimate_ends : T (scales prior_weight priors twice_prior) × T (sums account_bytes twice_prior delivered) × T (scales prior_weight air_times twice_time) × T (sums account_air twice_time spent) × T (quotients delivered spent rates)
 unfolding of_bits of_int round add mul div le
 estimate_ends = (tt, tt, tt, tt, tt)
 
 estimate_in : (a : Account) (prior time : Float) → AccountIn a → In priors prior → In air_times time → In rates (estimate_by a prior time)
 estimate_in a prior time h hp ht =
-    quotient_in delivered spent rates (a.bytes ⊕ f2 ⊗ prior) (a.air ⊕ f2 ⊗ time)
-    (sum_in account_bytes twice_prior delivered a.bytes (f2 ⊗ prior) h.bytes (scaled_in f2 priors twice_prior prior hp estimate_ends.0) estimate_ends.1)
-    (sum_in account_air twice_time spent a.air (f2 ⊗ time) h.air (scaled_in f2 air_times twice_time time ht estimate_ends.2) estimate_ends.3)
+    quotient_in delivered spent rates (a.bytes ⊕ prior_weight ⊗ prior) (a.air ⊕ prior_weight ⊗ time)
+    (sum_in account_bytes twice_prior delivered a.bytes (prior_weight ⊗ prior) h.bytes (scaled_in prior_weight priors twice_prior prior hp estimate_ends.0) estimate_ends.1)
+    (sum_in account_air twice_time spent a.air (prior_weight ⊗ time) h.air (scaled_in prior_weight air_times twice_time time ht estimate_ends.2) estimate_ends.3)
     estimate_ends.4
 
 lossless_ends : T (quotients capacities air_times rates)
@@ -148,7 +149,7 @@ pub no_account_in : AccountIn no_account
 unfolding of_bits le
 no_account_in = record { bytes = tt; air = tt; frames = tt }
 
-compared_ends : T (bounded rates) × T (bounded values) × T (bounded account_frames) × T (bounded (f2 to f2)) × In (f2 to f2) f2
+compared_ends : T (bounded rates) × T (bounded values) × T (bounded account_frames) × T (bounded (enough_frames to enough_frames)) × In (enough_frames to enough_frames) enough_frames
 unfolding of_bits le
 compared_ends = (tt, tt, tt, tt, tt)
 
@@ -208,8 +209,8 @@ module _ (t : Table) (p : Prices) (s : State) (ts : TableIn t) (ps : TariffIn p.
   price_test : (r q : ℕ) → OneTest (lossless_price t p r) (value t p s q)
   price_test r q = one_test (lossless_price t p r) (value t p s q) (value_number (lossless_price t p r) (lossless_price_in r)) (value_number (value t p s q) (value_in q))
 
-  frames_test : (r : ℕ) → OneTest (account s r).frames f2
-  frames_test r = one_test (account s r).frames f2 (in_number account_frames (account s r).frames compared_ends.2 (account_in r).frames) (in_number (f2 to f2) f2 compared_ends.3 compared_ends.4)
+  frames_test : (r : ℕ) → OneTest (account s r).frames enough_frames
+  frames_test r = one_test (account s r).frames enough_frames (in_number account_frames (account s r).frames compared_ends.2 (account_in r).frames) (in_number (enough_frames to enough_frames) enough_frames compared_ends.3 compared_ends.4)
 
   rung_compared : Compared t p s
   rung_compared =
@@ -225,7 +226,7 @@ module _ (t : Table) (p : Prices) (s : State) (ts : TableIn t) (ps : TariffIn p.
         frames_over_two = frames_test;
         candidates = λ i.
             let x = (account s (rung_at t i)).frames in
-            ap (λ (b : Bool). usable t s i && b) (neither (leb i here) (ltb here i) (lt f2 x) (le x f2) (at_or_below i here) (frames_test (rung_at t i)));
+            ap (λ (b : Bool). usable t s i && b) (neither (leb i here) (ltb here i) (lt enough_frames x) (le x enough_frames) (at_or_below i here) (frames_test (rung_at t i)));
         beginnings = ap (λ (b : Bool). usable t s (suc here) && b && (waited t p s (above t s) || clean_climb t p s (above t s))) (price_test (above t s) (choice t s));
       }
 

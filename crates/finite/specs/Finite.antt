@@ -3,7 +3,7 @@
 use Rattle.std.specs.Prelude.{◌≡◌, Bool, not, ◌&&◌, ◌||◌, List, ℕ, suc, ◌≤◌, T, ltb, Float, Ok, None, Some, Option}
 use Rattle.std.specs.Float.Ieee.{neg, le, lt}
 use Rattle.std.specs.Float.Ieee.Scale.{finite}
-use Rattle.float.specs.Numbers.{f64, within, f0, f1, f2, f5, f20}
+use Rattle.float.specs.Numbers.{f64, within, f0, f1}
 use Rattle.limits.specs.Values.{f200, f60, milli, ok_db}
 use Rattle.limits.specs.Readings.{Reading}
 use Rattle.ladder.specs.declared.types.Table.{Table}
@@ -13,6 +13,7 @@ use Rattle.account.specs.declared.types.Account.{Account}
 use Rattle.account.specs.declared.types.Tariff.{Tariff}
 use Rattle.account.specs.declared.types.Prices.{Prices}
 use Rattle.account.specs.declared.types.State.{State}
+use Rattle.account.specs.Fixed.{longest_wait, least_offset, most_offset, enough_frames}
 use Rattle.account.specs.State.{account, since_of, wait_of, choice}
 use Rattle.account.specs.Price.{burst_or, estimate, estimate_at, lossless, priced, value, lossless_price, wait_s}
 use Rattle.rules.specs.declared.types.Frame.{Frame}
@@ -46,8 +47,8 @@ abbrev pub most_frames : Float
 most_frames = f64 0x4032_0000_0000_0000
 
 -- 2^120: so long a time since a try grows no further, as what is added is lost in rounding
-abbrev pub longest : Float
-longest = f64 0x4770_0000_0000_0000
+abbrev pub longest_time : Float
+longest_time = f64 0x4770_0000_0000_0000
 
 -- 2^26: above 73,000 bytes and the prior over the shortest air. 2^52: above that times the longest burst, over the shortest
 abbrev pub most_rate : Float
@@ -83,12 +84,12 @@ pub record AccountLies (a : Account) : Type 0 where
 
 pub record StateLies (s : State) : Type 0 where
   pub accounts : (r : ℕ) → AccountLies (account s r)
-  pub times : (r : ℕ) → Lies f0 longest (since_of s r)
-  pub waits : (r : ℕ) → wait_of s r ≤ 48
+  pub times : (r : ℕ) → Lies f0 longest_time (since_of s r)
+  pub waits : (r : ℕ) → wait_of s r ≤ longest_wait
   pub snr : LiesIn (neg f200) f200 s.core.snr
   pub echo : LiesIn f0 f1 s.core.echo
-  pub floor_offset : Lies (neg f5) f20 s.core.offsets.floor
-  pub ofdm_offset : Lies (neg f5) f20 s.core.offsets.ofdm
+  pub floor_offset : Lies least_offset most_offset s.core.offsets.floor
+  pub ofdm_offset : Lies least_offset most_offset s.core.offsets.ofdm
 
 -- ---- what is compared
 -- "x > y" and "not x <= y" are one test: a NaN would part them
@@ -98,7 +99,7 @@ OneTest x y = lt y x ≡ not (le x y)
 -- Document 01 has ">" throughout; the Rust's `decide` has `<=` in two places, and goes on to the next place, or no further, where it holds.
 -- It passes over a place above the choice whose rung's frames are <= 2
 abbrev pub rust_candidate : Table → State → ℕ → Bool
-rust_candidate t s i = usable t s i && not (ltb s.core.place.0 i && le (account s (rung_at t i)).frames f2)
+rust_candidate t s i = usable t s i && not (ltb s.core.place.0 i && le (account s (rung_at t i)).frames enough_frames)
 
 -- and begins no try where the lossless price of the rung above is <= the choice's value
 abbrev pub rust_begins : Table → Prices → State → Bool
@@ -115,7 +116,7 @@ pub record Compared (t : Table) (p : Prices) (s : State) : Type 0 where
   -- a value against a value, a lossless price against a value, and "over 2 decayed frames"; so the definitions' tests are the Rust's
   pub value_over_value : (r q : ℕ) → OneTest (value t p s r) (value t p s q)
   pub price_over_value : (r q : ℕ) → OneTest (lossless_price t p r) (value t p s q)
-  pub frames_over_two : (r : ℕ) → OneTest (account s r).frames f2
+  pub frames_over_two : (r : ℕ) → OneTest (account s r).frames enough_frames
   pub candidates : (i : ℕ) → candidate t s i ≡ rust_candidate t s i
   pub beginnings : begins t p s ≡ rust_begins t p s
 
@@ -130,7 +131,7 @@ pub record Alike (s z : State) : Type 0 where
 -- of one state: its numbers, its waits in seconds, and all that is compared
 pub record FiniteAt (t : Table) (p : Prices) (s : State) : Type 0 where
   pub state : StateLies s
-  pub seconds : (r : ℕ) → Lies f0 longest (wait_s t p.tariff s r)
+  pub seconds : (r : ℕ) → Lies f0 longest_time (wait_s t p.tariff s r)
   pub compared : (z : State) → Alike s z → Compared t p z
 
 pub record Finite (k : RateController) : Type 0 where

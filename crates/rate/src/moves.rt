@@ -37,7 +37,7 @@ fn done(before: Option<Try>, s: &State, begun: bool) -> Reply
 
 // A value that is outside its limits is refused: 8. (`known` of reads.rt differs in its refusal: one function for both would be handed the refusal at each
 // of the calls below.)
-pub(crate) fn within(ok: bool) -> Verdict
+pub(crate) fn in_limits(ok: bool) -> Verdict
     ensures { result ≡ unless ok OutsideLimits }
 {
     ok.then_some(()).ok_or(Refusal::OutsideLimits)
@@ -53,7 +53,7 @@ fn frames_verdict(t: &Table, frames: &[Frame], snr: Reading) -> Verdict
         return Err(Refusal::TooManyFrames);
     }
     check_frames(t, frames)?;
-    within(limits::reading::ok_snr(snr))
+    in_limits(limits::reading::ok_snr(snr))
 }
 
 // Whether the two control lengths and the gap are within their limits.
@@ -109,7 +109,7 @@ impl Player {
     pub fn observe_snr(&mut self, snr: Reading) -> Reply
         ensures { answer_of self.new result ≡ step self.old (Snr snr) }
     {
-        within(limits::reading::ok_snr(snr))?;
+        in_limits(limits::reading::ok_snr(snr))?;
         let k = &mut self.controller;
         let before = k.state.core.trying;
         steps::echo::observe_snr(&mut k.state, snr);
@@ -132,7 +132,7 @@ impl Player {
     pub fn seed(&mut self, snr_db: f64) -> Reply
         ensures { answer_of self.new result ≡ step self.old (Seed snr_db) }
     {
-        within(limits::values::ok_db(snr_db))?;
+        in_limits(limits::values::ok_db(snr_db))?;
         let k = &mut self.controller;
         let before = k.state.core.trying;
         steps::echo::seed(terms(&k.table, &k.prices), &mut k.state, snr_db);
@@ -144,7 +144,7 @@ impl Player {
     pub fn observe_echo(&mut self, share: Reading, snr_db: f64) -> Reply
         ensures { answer_of self.new result ≡ step self.old (Echo share snr_db) }
     {
-        within(limits::reading::ok_echo(share, snr_db))?;
+        in_limits(limits::reading::ok_echo(share, snr_db))?;
         let k = &mut self.controller;
         let before = k.state.core.trying;
         steps::echo::observe_echo(terms(&k.table, &k.prices), &mut k.state, share, snr_db);
@@ -202,7 +202,9 @@ impl Player {
     ) -> Reply
         ensures { answer_of self.new result ≡ step self.old (Price control_floor_s control_ordinary_s gap_s burst_frames.now) }
     {
-        within(ok_lengths(control_floor_s, control_ordinary_s, gap_s) && all_bursts(burst_frames))?;
+        in_limits(
+            ok_lengths(control_floor_s, control_ordinary_s, gap_s) && all_bursts(burst_frames),
+        )?;
         if burst_frames.len() > MOST_BURSTS {
             return Err(Refusal::TooManyBursts);
         }

@@ -6,7 +6,7 @@ ghost use Rattle.ladder.specs.Types.{in_table};
 ghost use Rattle.rules.specs.Echo.{refuses};
 ghost use Rattle.rate.specs.Reads.{value_of, estimate_of, account_of, lossless_of, threshold_of, choice_of, probing_of, recommend_of, first_mode, modes_of, ofdm_refused};
 
-use crate::moves::within;
+use crate::moves::in_limits;
 use crate::types::{RateController, terms};
 use account::price;
 use account::types::{Account, Families, Offsets};
@@ -151,7 +151,7 @@ impl RateController {
     pub fn first_mode(&self, snr_db: f64) -> Result<Rung, Refusal>
         ensures { result ≡ first_mode self.now snr_db }
     {
-        within(limits::values::ok_db(snr_db))?;
+        in_limits(limits::values::ok_db(snr_db))?;
         let terms = terms(&self.table, &self.prices);
         let place = steps::echo::first_place(terms, &self.state, snr_db);
         Ok(self.table.rung_at(place))

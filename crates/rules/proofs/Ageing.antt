@@ -19,7 +19,8 @@ use Rattle.ladder.specs.Types.{rung_count, in_table}
 use Rattle.account.specs.declared.types.Account.{Account}
 use Rattle.account.specs.State.{no_account}
 use Rattle.rules.specs.declared.types.Frame.{Frame}
-use Rattle.rules.specs.Booking.{f12, aged, gained, book_one, book_frame}
+use Rattle.account.specs.Fixed.{half_life}
+use Rattle.rules.specs.Booking.{aged, gained, book_one, book_frame}
 use Rattle.rules.specs.bridges.Ageing.{aged_by, booked_by}
 use Rattle.rules.specs.bridges.Pass.{Fades, Fading}
 use Rattle.rules.proofs.Fade.{own_fade_lem}
@@ -139,7 +140,7 @@ module _ (t : Table) (f : Frame) (d : Fades) (l : List Account) (long : length l
       r = f.rung.0
 
       own : Account
-      own = gained f (aged (half (f1 ⊘ f12)) (get_or l r no_account))
+      own = gained f (aged (half (f1 ⊘ half_life)) (get_or l r no_account))
 
       go : (b : Bool) → b ≡ in_table t r → cond b (set s r own) s ≡ booked
       go false q =

@@ -6,9 +6,9 @@ use Prim.Native.Nat.{ℕ, zero, suc, ◌+◌, ◌*◌, ◌<◌, min}
 use native.Mathlib.Omega.{arith}
 use lib.Dec.{leb, ltb, eqb, ltb→lt}
 use lib.ListN.{length, get_or, set, length-set}
-use lib.Ieee.{Float, binary64, of_bits, neg, le, lt}
+use lib.Ieee.{Float, binary64, of_bits, le, lt}
 use lib.Ieee.Fits.{and_l}
-use Rattle.float.specs.Numbers.{f64, ◌⊕◌, f0}
+use Rattle.float.specs.Numbers.{◌⊕◌, f0}
 use Rattle.float.proofs.Monotone.{natural, add_natural}
 use Rattle.limits.specs.Readings.{Reading}
 use Rattle.std.specs.Prelude.{None, Some}
@@ -19,6 +19,7 @@ use Rattle.std.proofs.lemmas.Float.{T_from_true}
 use Rattle.ladder.proofs.Cases.{pick}
 use Rattle.ladder.proofs.Entries.{All, all_get, all_set}
 use Rattle.ladder.proofs.TableSound.{TableSound}
+use Rattle.account.specs.Fixed.{echo_floor}
 use Rattle.account.specs.State.{Trying, since_of, wait_of, choice, with_since, with_wait, with_trying, with_place, with_echo}
 use Rattle.account.specs.declared.types.Prices.{Prices}
 use Rattle.account.specs.declared.types.State.{State}
@@ -164,7 +165,7 @@ Untimed s z = (z.since ≡ s.since) × (z.wait ≡ s.wait)
 pub echo_untimed : (t : Table) (p : Prices) (s : State) (share : Reading) (snr : Float) → Untimed s (observe_echo t p s share snr)
 unfolding observe_echo
 echo_untimed t p s None snr = (refl, refl)
-echo_untimed t p s (Some x) snr = pick (Untimed s) (lt snr (neg (f64 0x4018_0000_0000_0000))) (refl, refl) (heard (with_echo s (smooth_echo s.core.echo x)) (refl, refl))
+echo_untimed t p s (Some x) snr = pick (Untimed s) (lt snr echo_floor) (refl, refl) (heard (with_echo s (smooth_echo s.core.echo x)) (refl, refl))
   where
     off : (m : State) (y : Trying) → Untimed s m → Untimed s (end_if_out t m y)
     off m None h = h

@@ -18,7 +18,7 @@ use borrow.Author.Tests.{eqb-false, ne_eqb}
 use Rattle.float.specs.Numbers.{f64, ◌⊗◌, ◌⊘◌, f0, f1}
 use Rattle.half.specs.Power.{descent, series, half}
 use Rattle.half.specs.Powers.{powers}
-use Rattle.rules.specs.Booking.{f12}
+use Rattle.account.specs.Fixed.{half_life}
 use Rattle.ladder.specs.declared.types.Table.{Table}
 use Rattle.ladder.specs.Lists.{tabulate}
 use Rattle.ladder.specs.Types.{row, rung_count}
@@ -26,7 +26,7 @@ use Rattle.ladder.proofs.Tabulating.{tabulate_at, length_tabulate}
 use Rattle.rules.specs.bridges.Pass.{Fade, Fades, factor, fade_at, fades_for, turned, Fading, Kept}
 
 -- "its own by half(1/12)": 0.9438743126816935
-pub own_fade_lem : half (f1 ⊘ f12) ≡ f64 0x3fee_3437_e710_1344
+pub own_fade_lem : half (f1 ⊘ half_life) ≡ f64 0x3fee_3437_e710_1344
 unfolding half descent series powers of_bits round sub mul div le
 own_fade_lem = refl
 
@@ -108,7 +108,7 @@ same_quotient (fin true a b) (fin false n d) z h k =
     let g : 0 < n * up d * down b = mul-pos (omega arith) (down_pos b) in
     absurd (omega arith)
 
-twelve : f12 ≡ fin false 3 (pos 2)
+twelve : half_life ≡ fin false 3 (pos 2)
 unfolding of_bits
 twelve = refl
 
@@ -117,7 +117,7 @@ abbrev pub Carried : Float → Fade → Type 0
 Carried air d = T (lt f0 d.time) → d.by ≡ factor air d.time
 
 module _ (air time : Float) (last : Fade) (good : Carried air last) where
-  product : T (lt f0 last.time) → T (eq time last.time) → f12 ⊗ time ≡ f12 ⊗ last.time
+  product : T (lt f0 last.time) → T (eq time last.time) → half_life ⊗ time ≡ half_life ⊗ last.time
   product h k = rw twelve (same_product false 3 (pos 2) time last.time h k)
 
   -- the factor that serves is the rung's own
@@ -126,7 +126,7 @@ module _ (air time : Float) (last : Fade) (good : Carried air last) where
     where
       go : (a b : Bool)
           → (T a → last.by ≡ factor air last.time)
-          → (T a → T b → f12 ⊗ time ≡ f12 ⊗ last.time)
+          → (T a → T b → half_life ⊗ time ≡ half_life ⊗ last.time)
           → (cond (a && b) last (record { time = time; by = factor air time })).by ≡ factor air time
       go true true g p = g tt ∙ ap (λ (z : Float). half (air ⊘ z)) (sym (p tt tt))
       go true false g p = refl
@@ -151,7 +151,7 @@ filled_more t air by i last d long good e before r h =
 
 -- two airs that `==` finds the same above 0 have one factor at each frame time
 pub same_air : (air last time : Float) → T (lt f0 last) → T (eq air last) → factor last time ≡ factor air time
-same_air air last time h k = ap half (sym (same_quotient air last (f12 ⊗ time) h k))
+same_air air last time h k = ap half (sym (same_quotient air last (half_life ⊗ time) h k))
 
 -- so the factors kept of the same air are those for a frame's
 pub kept_fading : (t : Table) (air : Float) (d : Fades) → Kept t d → true ≡ (lt f0 d.air && eq air d.air) → Fading t air d

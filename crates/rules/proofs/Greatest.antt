@@ -19,8 +19,8 @@ use Rattle.std.specs.Prelude.{None, Some}
 use Rattle.rules.specs.Lowest.{Best, found, exceeds, greatest, improved}
 
 -- the value of the rung at a place
-abbrev pub worth : Table → Prices → State → ℕ → Float
-worth t p s i = value t p s (rung_at t i)
+abbrev pub value_of_place : Table → Prices → State → ℕ → Float
+value_of_place t p s i = value t p s (rung_at t i)
 
 module _ (A : ℕ → Bool) (W : ℕ → Float) where
   pub start : (n : ℕ) (b : Best) → greatest (n - 0) 0 A W b ≡ greatest n 0 A W b

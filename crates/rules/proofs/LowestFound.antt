@@ -20,20 +20,20 @@ use Rattle.std.specs.Prelude.{None, Some}
 use Rattle.rules.specs.Lowest.{Best, found, Lowest, BestOf, exceeds, improved, greatest}
 
 -- ---- one is found where one is allowed
-found_stays : (n i : ℕ) (allowed : ℕ → Bool) (worth : ℕ → Float) (j : Place) (x : Float) → greatest n i allowed worth (found j x) ≢ None
+found_stays : (n i : ℕ) (allowed : ℕ → Bool) (value : ℕ → Float) (j : Place) (x : Float) → greatest n i allowed value (found j x) ≢ None
 unfolding greatest
-found_stays zero i allowed worth j x = λ (e : found j x ≡ None). let z : ◌≡◌ {A = ℕ} 0 1 = cc in absurd (omega arith)
-found_stays (suc n) i allowed worth j x =
-    pick (λ (b : Best). greatest n (suc i) allowed worth b ≢ None) (allowed i && exceeds (worth i) (found j x))
-    (found_stays n (suc i) allowed worth (place i) (worth i)) (found_stays n (suc i) allowed worth j x)
+found_stays zero i allowed value j x = λ (e : found j x ≡ None). let z : ◌≡◌ {A = ℕ} 0 1 = cc in absurd (omega arith)
+found_stays (suc n) i allowed value j x =
+    pick (λ (b : Best). greatest n (suc i) allowed value b ≢ None) (allowed i && exceeds (value i) (found j x))
+    (found_stays n (suc i) allowed value (place i) (value i)) (found_stays n (suc i) allowed value j x)
 
-pub finds : (n i : ℕ) (allowed : ℕ → Bool) (worth : ℕ → Float) (j : ℕ) → i ≤ j → j < i + n → T (allowed j) → greatest n i allowed worth None ≢ None
+pub finds : (n i : ℕ) (allowed : ℕ → Bool) (value : ℕ → Float) (j : ℕ) → i ≤ j → j < i + n → T (allowed j) → greatest n i allowed value None ≢ None
 unfolding greatest
-finds zero i allowed worth j h k a = absurd (omega arith)
-finds (suc n) i allowed worth j h k a =
-    cond_both (allowed i && true) _ _ (λ (b : Best). greatest n (suc i) allowed worth b ≢ None)
-    (λ e. found_stays n (suc i) allowed worth (place i) (worth i))
-    (λ e. finds n (suc i) allowed worth j (later e (eq-or-lt_of_le h)) (omega arith) a)
+finds zero i allowed value j h k a = absurd (omega arith)
+finds (suc n) i allowed value j h k a =
+    cond_both (allowed i && true) _ _ (λ (b : Best). greatest n (suc i) allowed value b ≢ None)
+    (λ e. found_stays n (suc i) allowed value (place i) (value i))
+    (λ e. finds n (suc i) allowed value j (later e (eq-or-lt_of_le h)) (omega arith) a)
   where
     later : (allowed i && true) ≡ false → (i ≡ j) ⊎ (i < j) → suc i ≤ j
     later e (inl q) = absurd (subst T e (and_i (allowed i) true (subst (λ (m : ℕ). T (allowed m)) (sym q) a) tt))
@@ -54,53 +54,53 @@ with_last P m h k j l = go (eq-or-lt_of_le (le_of_suc-le-suc l))
     go (inl e) = subst P (sym e) k
     go (inr g) = h j g
 
-module _ (allowed : ℕ → Bool) (worth : ℕ → Float) (numbers : (j : ℕ) → T (allowed j) → T (number (worth j))) where
+module _ (allowed : ℕ → Bool) (value : ℕ → Float) (numbers : (j : ℕ) → T (allowed j) → T (number (value j))) where
   -- one place more
-  grown : (m : ℕ) (b : Best) → BestOf allowed worth m b → BestOf allowed worth (suc m) (improved allowed worth m b)
+  grown : (m : ℕ) (b : Best) → BestOf allowed value m b → BestOf allowed value (suc m) (improved allowed value m b)
   grown m None h = go (allowed m) refl
     where
-      go : (a : Bool) → allowed m ≡ a → BestOf allowed worth (suc m) (cond (a && true) (found (place m) (worth m)) None)
+      go : (a : Bool) → allowed m ≡ a → BestOf allowed value (suc m) (cond (a && true) (found (place m) (value m)) None)
       go true e = record {
         below = omega arith;
         is_allowed = T_from_true _ e;
-        value = refl;
+        its_value = refl;
         none_greater =
-            with_last (λ (j : ℕ). T (allowed j) → T (not (lt (worth m) (worth j)))) m (λ (j : ℕ) (g : j < m) (a : T (allowed j)). absurd (T_not (allowed j) (h j g) a)) (λ (a : T (allowed m)). never_less (worth m));
+            with_last (λ (j : ℕ). T (allowed j) → T (not (lt (value m) (value j)))) m (λ (j : ℕ) (g : j < m) (a : T (allowed j)). absurd (T_not (allowed j) (h j g) a)) (λ (a : T (allowed m)). never_less (value m));
         lower_less = λ (j : ℕ) (g : j < m) (a : T (allowed j)). absurd (T_not (allowed j) (h j g) a);
       }
       go false e = with_last (λ (j : ℕ). T (not (allowed j))) m h (subst (λ (a : Bool). T (not a)) (sym e) tt)
-  grown m (Some f) h = go (allowed m) refl (lt f.value (worth m)) refl
+  grown m (Some f) h = go (allowed m) refl (lt f.value (value m)) refl
     where
       -- what is below m has less than a greater value at m
-      less : T (lt f.value (worth m)) → (j : ℕ) → j < m → T (allowed j) → T (lt (worth j) (worth m))
+      less : T (lt f.value (value m)) → (j : ℕ) → j < m → T (allowed j) → T (lt (value j) (value m))
       less k j g a =
-          le_lt (worth j) f.value (worth m) (not_lt f.value (worth j) (subst (λ (y : Float). T (number y)) (sym h.value) (numbers f.place.0 h.is_allowed)) (numbers j a) (h.none_greater j g a)) k
+          le_lt (value j) f.value (value m) (not_lt f.value (value j) (subst (λ (y : Float). T (number y)) (sym h.its_value) (numbers f.place.0 h.is_allowed)) (numbers j a) (h.none_greater j g a)) k
 
-      kept : (T (allowed m) → T (not (lt f.value (worth m)))) → Lowest allowed worth (suc m) f.place.0 f.value
+      kept : (T (allowed m) → T (not (lt f.value (value m)))) → Lowest allowed value (suc m) f.place.0 f.value
       kept k = record {
         below = omega (arith, h.below);
         is_allowed = h.is_allowed;
-        value = h.value;
-        none_greater = with_last (λ (j : ℕ). T (allowed j) → T (not (lt f.value (worth j)))) m h.none_greater k;
+        its_value = h.its_value;
+        none_greater = with_last (λ (j : ℕ). T (allowed j) → T (not (lt f.value (value j)))) m h.none_greater k;
         lower_less = h.lower_less;
       }
 
-      go : (a : Bool) → allowed m ≡ a → (b : Bool) → lt f.value (worth m) ≡ b → BestOf allowed worth (suc m) (cond (a && b) (found (place m) (worth m)) (Some f))
+      go : (a : Bool) → allowed m ≡ a → (b : Bool) → lt f.value (value m) ≡ b → BestOf allowed value (suc m) (cond (a && b) (found (place m) (value m)) (Some f))
       go true e true k = record {
         below = omega arith;
         is_allowed = T_from_true _ e;
-        value = refl;
+        its_value = refl;
         none_greater =
-            with_last (λ (j : ℕ). T (allowed j) → T (not (lt (worth m) (worth j)))) m (λ (j : ℕ) (g : j < m) (a : T (allowed j)). never_both (worth j) (worth m) (less (T_from_true _ k) j g a)) (λ (a : T (allowed m)). never_less (worth m));
+            with_last (λ (j : ℕ). T (allowed j) → T (not (lt (value m) (value j)))) m (λ (j : ℕ) (g : j < m) (a : T (allowed j)). never_both (value j) (value m) (less (T_from_true _ k) j g a)) (λ (a : T (allowed m)). never_less (value m));
         lower_less = less (T_from_true _ k);
       }
       go true e false k = kept (λ (a : T (allowed m)). subst (λ (z : Bool). T (not z)) (sym k) tt)
       go false e b k = kept (λ (a : T (allowed m)). absurd (subst T e a))
 
-  go_on : (n m : ℕ) (b : Best) → BestOf allowed worth m b → BestOf allowed worth (m + n) (greatest n m allowed worth b)
+  go_on : (n m : ℕ) (b : Best) → BestOf allowed value m b → BestOf allowed value (m + n) (greatest n m allowed value b)
   unfolding greatest
   go_on zero m b h = rw (add-zero m) h
-  go_on (suc n) m b h = rw (add-suc m n, ← suc-add m n) (go_on n (suc m) (improved allowed worth m b) (grown m b h))
+  go_on (suc n) m b h = rw (add-suc m n, ← suc-add m n) (go_on n (suc m) (improved allowed value m b) (grown m b h))
 
-  pub lowest_of_greatest : (n : ℕ) → BestOf allowed worth n (greatest n 0 allowed worth None)
-  lowest_of_greatest n = subst (λ (m : ℕ). BestOf allowed worth m (greatest n 0 allowed worth None)) (zero-add n) (go_on n 0 None (λ (j : ℕ) (g : j < 0). absurd (omega arith)))
+  pub lowest_of_greatest : (n : ℕ) → BestOf allowed value n (greatest n 0 allowed value None)
+  lowest_of_greatest n = subst (λ (m : ℕ). BestOf allowed value m (greatest n 0 allowed value None)) (zero-add n) (go_on n 0 None (λ (j : ℕ) (g : j < 0). absurd (omega arith)))

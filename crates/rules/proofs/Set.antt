@@ -71,7 +71,7 @@ unfolding count_trailing_zeros
 even n s e = rw e
 
 -- the lowest digit t of a set that is not empty: it is one of the n, it can be taken off, and then one digit less is set
-pub record Lowest (n s t : ℕ) : Type 0 where
+pub record LowestDigit (n s t : ℕ) : Type 0 where
   pub digit : t < n
   pub within : 2 ^ t ≤ s
   pub fewer : ones s ≡ suc (ones (s - 2 ^ t))
@@ -84,7 +84,7 @@ pub record Halved (s t : ℕ) : Type 0 where
 halved : (s t : ℕ) → s % 2 ≡ 0 → 2 ^ t ≤ s / 2 → Halved s t
 halved s t e h = let g = pow-suc 2 t in record { half = omega arith; low = omega arith }
 
-pub lowest : (n s : ℕ) → 0 < s → s < 2 ^ n → Lowest n s (count_trailing_zeros n s)
+pub lowest : (n s : ℕ) → 0 < s → s < 2 ^ n → LowestDigit n s (count_trailing_zeros n s)
 lowest zero s p h = absurd (omega arith)
 lowest (suc n) s p h =
     ⊎_elim

@@ -8,8 +8,7 @@ use Prim.Native.Nat.{ℕ, zero, suc, ◌+◌, ◌<◌}
 use native.Mathlib.Omega.{arith}
 use borrow.Author.Tests.{leb-false}
 use lib.Dec.{T, leb, eqb}
-use lib.Ieee.{Float, neg, lt}
-use Rattle.float.specs.Numbers.{f64}
+use lib.Ieee.{Float, lt}
 use Rattle.ladder.specs.declared.types.Rung.{Rung}
 use Rattle.limits.specs.Readings.{Reading}
 use Rattle.std.specs.Prelude.{None, Some}
@@ -17,6 +16,7 @@ use Rattle.ladder.specs.declared.types.Table.{Table}
 use Rattle.ladder.specs.Types.{rung, place_count}
 use Rattle.std.proofs.lemmas.Bool.{cond_both, or_parts}
 use Rattle.ladder.proofs.Cases.{pick}
+use Rattle.account.specs.Fixed.{echo_floor}
 use Rattle.account.specs.State.{Trying, try_of, runs, choice, with_trying, with_place, with_echo}
 use Rattle.account.specs.declared.types.Prices.{Prices}
 use Rattle.account.specs.declared.types.State.{State}
@@ -72,7 +72,7 @@ pub echo_rests : (t : Table) (p : Prices) (s : State) (share : Reading) (snr : F
 unfolding observe_echo
 echo_rests t p s None snr = inr refl
 echo_rests t p s (Some x) snr =
-    pick (λ (z : State). Rests s.core.trying z.core.trying) (lt snr (neg (f64 0x4018_0000_0000_0000))) (inr refl) (heard (with_echo s (smooth_echo s.core.echo x)))
+    pick (λ (z : State). Rests s.core.trying z.core.trying) (lt snr echo_floor) (inr refl) (heard (with_echo s (smooth_echo s.core.echo x)))
   where
     Rests : Trying → Trying → Type 0
     Rests y z = (z ≡ None) ⊎ (z ≡ y)

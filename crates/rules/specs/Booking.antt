@@ -1,7 +1,7 @@
 -- "A transmission", what the frames move by themselves: offsets, accounts, marks and times. Definitions only.
 use Rattle.std.specs.Prelude.{Bool, not, ◌&&◌, ◌||◌, cond, List, [], ◌∷◌, map, ℕ, zero, suc, eqb, Float, get_or, set, None, Some}
-use Rattle.std.specs.Float.Ieee.{neg, lt}
-use Rattle.float.specs.Numbers.{f64, ◌⊕◌, ◌⊖◌, ◌⊗◌, ◌⊘◌, of_nat, f0, f1, f5, f20}
+use Rattle.std.specs.Float.Ieee.{lt}
+use Rattle.float.specs.Numbers.{◌⊕◌, ◌⊖◌, ◌⊗◌, ◌⊘◌, of_nat, f0, f1}
 use Rattle.float.specs.Sum.{total}
 use Rattle.half.specs.Power.{half}
 use Rattle.limits.specs.Readings.{Reading}
@@ -9,6 +9,7 @@ use Rattle.ladder.specs.declared.types.Table.{Table}
 use Rattle.ladder.specs.Lists.{every}
 use Rattle.ladder.specs.Types.{rung, row, rung_at, rung_count, place_count, is_floor}
 use Rattle.account.specs.declared.types.Account.{Account}
+use Rattle.account.specs.Fixed.{half_life, least_offset, most_offset}
 use Rattle.account.specs.State.{Mark, no_account, choice}
 use Rattle.account.specs.declared.types.Offsets.{Offsets}
 use Rattle.account.specs.declared.types.State.{State}
@@ -22,7 +23,7 @@ at r f = eqb f.rung.0 r
 
 -- ---- offsets: "Per frame not combined, with SNR known: offset += gain × (p - decoded), clamped to -5..20."
 abbrev pub clamp : Float → Float
-clamp x = cond (lt x (neg f5)) (neg f5) (cond (lt f20 x) f20 x)
+clamp x = cond (lt x least_offset) least_offset (cond (lt most_offset x) most_offset x)
 
 abbrev pub moved : Table → Float → Frame → Float → Float
 moved t snr f off = clamp (off ⊕ t.air.gain ⊗ (prior_p t f.rung.0 off snr ⊖ cond f.decoded f1 f0))
@@ -44,10 +45,6 @@ unfoldable pub offsets_after : Table → State → List Frame → Offsets
 offsets_after t s fs = offsets_at t s.core.snr fs s.core.offsets
 
 -- ---- accounts
--- 12.0, the half-life
-abbrev pub f12 : Float
-f12 = f64 0x4028_0000_0000_0000
-
 -- each of the three times d
 abbrev pub aged : Float → Account → Account
 aged d a = record { bytes = a.bytes ⊗ d; air = a.air ⊗ d; frames = a.frames ⊗ d }
@@ -58,7 +55,7 @@ gained f a = record { bytes = cond f.decoded (a.bytes ⊕ of_nat f.capacity) a.b
 
 -- "Per frame: other rungs age by half(air/(12 × own frame time)); its own by half(1/12), then gains .."
 abbrev pub book_one : Table → Frame → ℕ → Account → Account
-book_one t f r a = cond (at r f) (gained f (aged (half (f1 ⊘ f12)) a)) (aged (half (f.air ⊘ (f12 ⊗ (row t r).time))) a)
+book_one t f r a = cond (at r f) (gained f (aged (half (f1 ⊘ half_life)) a)) (aged (half (f.air ⊘ (half_life ⊗ (row t r).time))) a)
 
 -- n rungs from r on
 unfoldable pub book_frame : ℕ → ℕ → Table → Frame → List Account → List Account

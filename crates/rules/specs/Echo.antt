@@ -1,12 +1,13 @@
 -- "Echo and silence". Definitions only.
 use Rattle.std.specs.Prelude.{Bool, false, not, ◌&&◌, ◌||◌, cond, ℕ, zero, suc, ◌-◌, ltb, Float, None, Some}
-use Rattle.std.specs.Float.Ieee.{neg, lt}
-use Rattle.float.specs.Numbers.{f64, ◌⊕◌, ◌⊗◌}
+use Rattle.std.specs.Float.Ieee.{lt}
+use Rattle.float.specs.Numbers.{◌⊕◌, ◌⊗◌}
 use Rattle.limits.specs.Readings.{Reading}
 use Rattle.ladder.specs.declared.types.Table.{Table}
 use Rattle.ladder.specs.Lists.{some_from}
 use Rattle.ladder.specs.Types.{row, rung_at, place_count, is_floor}
-use Rattle.account.specs.State.{Trying, choice, with_trying, with_snr, with_echo, with_place}
+use Rattle.account.specs.Fixed.{snr_kept, snr_weight, echo_kept, echo_weight, echo_floor}
+use Rattle.account.specs.State.{Trying, choice, cancel_try, with_snr, with_echo, with_place}
 use Rattle.account.specs.declared.types.Prices.{Prices}
 use Rattle.account.specs.declared.types.State.{State}
 use Rattle.account.specs.Price.{estimate_at, priced, value}
@@ -15,16 +16,16 @@ use Rattle.rules.specs.Lowest.{greatest, best_place}
 -- ---- smoothing: "the first reading stands itself"
 abbrev pub smooth : Float → Float → Reading → Float → Reading
 smooth old new None x = Some x
-smooth old new (Some y) x = Some (old ⊗ y ⊕ new ⊗ x)
+smooth old new (Some before) x = Some (old ⊗ before ⊕ new ⊗ x)
 
 -- "SNR smooths 0.7 old + 0.3 new"; a missing reading is no news
 abbrev pub smooth_snr : Reading → Reading → Reading
-smooth_snr y None = y
-smooth_snr y (Some x) = smooth (f64 0x3fe6_6666_6666_6666) (f64 0x3fd3_3333_3333_3333) y x
+smooth_snr before None = before
+smooth_snr before (Some x) = smooth snr_kept snr_weight before x
 
 -- "echo 0.6 old + 0.4 new"
 abbrev pub smooth_echo : Reading → Float → Reading
-smooth_echo y x = smooth (f64 0x3fe3_3333_3333_3333) (f64 0x3fd9_9999_9999_999a) y x
+smooth_echo before x = smooth echo_kept echo_weight before x
 
 -- "A rung is out only when echo > its limit"
 abbrev pub over_limit : Reading → Reading → Bool
@@ -42,7 +43,7 @@ usable t s i = ltb i (place_count t) && not (echo_out t s (rung_at t i))
 -- ---- `observe_echo`
 abbrev pub end_if_out : Table → State → Trying → State
 end_if_out t s None = s
-end_if_out t s (Some y) = cond (echo_out t s y.rung.0) (with_trying s None) s
+end_if_out t s (Some y) = cond (echo_out t s y.rung.0) (cancel_try s) s
 
 -- "a choice that is out goes to the lowest of greatest value among allowed places under it, else place 0"
 abbrev pub down_if_out : Table → Prices → State → State
@@ -56,7 +57,7 @@ echoed t p s = down_if_out t p (end_if_out t s s.core.trying)
 -- "`observe_echo`: a missing share or an SNR under -6 changes nothing"
 unfoldable pub observe_echo : Table → Prices → State → Reading → Float → State
 observe_echo t p s None snr = s
-observe_echo t p s (Some x) snr = cond (lt snr (neg (f64 0x4018_0000_0000_0000))) s (echoed t p (with_echo s (smooth_echo s.core.echo x)))
+observe_echo t p s (Some x) snr = cond (lt snr echo_floor) s (echoed t p (with_echo s (smooth_echo s.core.echo x)))
 
 -- ---- `silent`: "a try ends; the choice goes to the highest allowed place at or under choice - steps (not below 0), else 0"
 abbrev pub highest : Table → State → ℕ → ℕ
@@ -64,7 +65,7 @@ highest t s zero = 0
 highest t s (suc i) = cond (usable t s (suc i)) (suc i) (highest t s i)
 
 unfoldable pub silent : Table → State → ℕ → State
-silent t s steps = with_place (with_trying s None) (highest t s (s.core.place.0 - steps))
+silent t s steps = with_place (cancel_try s) (highest t s (s.core.place.0 - steps))
 
 -- ---- `first_mode`: "the lowest of greatest priced estimate at the SNR given, over allowed places, else place 0"
 abbrev pub first_place : Table → Prices → State → Float → ℕ

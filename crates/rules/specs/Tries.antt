@@ -1,11 +1,12 @@
 -- "A transmission", what is decided then: rungs judged, the running try, and `decide`. Definitions only.
-use Rattle.std.specs.Prelude.{Bool, true, false, not, ◌&&◌, ◌||◌, cond, List, ℕ, zero, suc, ◌+◌, ◌*◌, min, leb, ltb, eqb, Float, None, Some}
+use Rattle.std.specs.Prelude.{Bool, true, false, not, ◌&&◌, ◌||◌, cond, List, ℕ, zero, suc, ◌+◌, ◌*◌, min, leb, ltb, eqb, None, Some}
 use Rattle.std.specs.Bool.{beq}
 use Rattle.std.specs.Float.Ieee.{le, lt}
-use Rattle.float.specs.Numbers.{f64, ◌⊖◌, f0, f2}
+use Rattle.float.specs.Numbers.{◌⊖◌, f0}
 use Rattle.ladder.specs.declared.types.Table.{Table}
 use Rattle.ladder.specs.Types.{rung, rung_at, place_count, is_floor}
-use Rattle.account.specs.State.{Trying, try_of, Mark, account, since_of, wait_of, choice, with_since, with_wait, with_trying, with_place}
+use Rattle.account.specs.Fixed.{first_wait, longest_wait, try_frames, try_calls, enough_frames, wait_tolerance}
+use Rattle.account.specs.State.{Trying, try_of, Mark, account, since_of, wait_of, choice, with_since, with_wait, with_trying, cancel_try, with_place}
 use Rattle.account.specs.declared.types.Prices.{Prices}
 use Rattle.account.specs.declared.types.State.{State}
 use Rattle.account.specs.Price.{value, lossless_price, wait_s}
@@ -18,8 +19,12 @@ use Rattle.rules.specs.Booking.{Frame, at, sent}
 abbrev pub better : Table → Prices → State → ℕ → Bool
 better t p s r = lt (value t p s (choice t s)) (value t p s r)
 
+-- "min(48, 2 × wait)"
+abbrev pub longer : ℕ → ℕ
+longer w = min longest_wait (2 * w)
+
 unfoldable pub judge_try : Table → Prices → State → ℕ → State
-judge_try t p s r = cond (better t p s r) (with_wait s r 6) (with_since (with_wait s r (min 48 (2 * wait_of s r))) r f0)
+judge_try t p s r = cond (better t p s r) (with_wait s r first_wait) (with_since (with_wait s r (longer (wait_of s r))) r f0)
 
 -- whether the rung r is being tried
 abbrev pub tries : Trying → ℕ → Bool
@@ -61,12 +66,16 @@ abbrev pub own_frames : List Frame → Trying → ℕ
 own_frames fs None = 0
 own_frames fs (Some y) = how_many (at y.rung.0) fs
 
+-- "over at 3 frames or 6 calls": so many frames of its own, and so many calls before this one
+abbrev pub try_over : ℕ → ℕ → Bool
+try_over frames calls = leb try_frames frames || leb try_calls (suc calls)
+
 -- n is the call's count of them
 unfoldable pub counted : Table → Prices → ℕ → State → Trying → State
 counted t p n s None = s
 counted t p n s (Some y) =
-    cond (leb 3 (y.frames + n) || leb 6 (suc y.calls))
-    (end_probe t p (with_trying s None) y.rung.0 (y.frames + n))
+    cond (try_over (y.frames + n) y.calls)
+    (end_probe t p (cancel_try s) y.rung.0 (y.frames + n))
     (with_trying s (try_of y.rung (suc y.calls) (y.frames + n)))
 
 -- ---- `decide`
@@ -83,19 +92,15 @@ still s = decided s false
 
 -- "among echo-allowed places at or below the choice, or above with over 2 decayed frames"
 abbrev pub candidate : Table → State → ℕ → Bool
-candidate t s i = usable t s i && (leb i s.core.place.0 || lt f2 (account s (rung_at t i)).frames)
+candidate t s i = usable t s i && (leb i s.core.place.0 || lt enough_frames (account s (rung_at t i)).frames)
 
 -- "the lowest of greatest value"
 unfoldable pub choose : Table → Prices → State → Best
 choose t p s = greatest (place_count t) 0 (candidate t s) (λ i. value t p s (rung_at t i)) None
 
--- 1e-9, the wait's tolerance in seconds
-abbrev pub nano : Float
-nano = f64 0x3e11_2e0b_e826_d695
-
 -- "its time >= wait - 1e-9"
 abbrev pub waited : Table → Prices → State → ℕ → Bool
-waited t p s r = le (wait_s t p.tariff s r ⊖ nano) (since_of s r)
+waited t p s r = le (wait_s t p.tariff s r ⊖ wait_tolerance) (since_of s r)
 
 -- "`clean_climb` holds: the mark is on the choice, both rungs are of one family, the upper one's wait is 6 and its value > the choice's"
 abbrev pub is_on : Mark → ℕ → Bool
@@ -104,7 +109,7 @@ is_on (Some q) r = eqb q.0 r
 
 unfoldable pub clean_climb : Table → Prices → State → ℕ → Bool
 clean_climb t p s r =
-    is_on s.core.clean (choice t s) && beq (is_floor t r) (is_floor t (choice t s)) && eqb (wait_of s r) 6 && better t p s r
+    is_on s.core.clean (choice t s) && beq (is_floor t r) (is_floor t (choice t s)) && eqb (wait_of s r) first_wait && better t p s r
 
 -- the rung of the next place
 abbrev pub above : Table → State → ℕ
@@ -122,11 +127,11 @@ begin t s = record { state = with_trying (with_since s (above t s) f0) (try_of (
 -- "With a try running it also stops, after ending one that is not exactly above."
 abbrev pub decide_try : Table → Prices → State → Trying → Decided
 decide_try t p s None = cond (begins t p s) (begin t s) (still s)
-decide_try t p s (Some y) = still (cond (usable t s (suc s.core.place.0) && eqb (above t s) y.rung.0) s (with_trying s None))
+decide_try t p s (Some y) = still (cond (usable t s (suc s.core.place.0) && eqb (above t s) y.rung.0) s (cancel_try s))
 
 -- "none gives place 0 and ends any try, and `decide` stops"
 abbrev pub decide_at : Table → Prices → State → Best → Decided
-decide_at t p s None = still (with_trying (with_place s 0) None)
+decide_at t p s None = still (cancel_try (with_place s 0))
 decide_at t p s (Some b) = decide_try t p (with_place s b.place.0) s.core.trying
 
 unfoldable pub decide : Table → Prices → State → Decided

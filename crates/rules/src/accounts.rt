@@ -8,13 +8,11 @@ ghost use Rattle.rules.specs.bridges.Pass.{factor, fade_at, no_fades, fades_for}
 ghost use Rattle.rules.specs.bridges.Ageing.{aged_by, booked_by};
 
 use crate::types::Frame;
+use account::fixed::HALF_LIFE;
 use account::types::Account;
 use ladder::types::{Rung, Table};
 
-// In how many of its own frames' air an account falls to half.
-const HALF_LIFE: f64 = 12.0;
-
-// What a frame's own rung ages by: half(1/12).
+// What a frame's own rung ages by: half(1/12), 12 the half-life.
 const OWN_FADE: f64 = 0.9438743126816935;
 
 // ---- one account
@@ -50,9 +48,9 @@ fn gain_frame(f: Frame, a: Account) -> Account
 // (An Option here, and in `Fades` below, would spare no test: equal floats are the same value only where they are no zeros, so the last one would be
 // tested against 0.0 all the same, and a 0.0 says that there is none.)
 #[derive(Clone, Copy)]
-pub struct Fade {
-    pub time: f64,
-    pub by: f64,
+struct Fade {
+    time: f64,
+    by: f64,
 }
 
 // Whether there is a last value, and this is the same.

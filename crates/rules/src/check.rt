@@ -7,7 +7,7 @@ use ladder::types::Table;
 use limits::refusal::{Refusal, Verdict};
 
 // A frame against a table. Refused: 6, 8.
-pub fn frame_verdict(t: &Table, f: Frame) -> Verdict
+pub(crate) fn frame_verdict(t: &Table, f: Frame) -> Verdict
     ensures { result ≡ frame_verdict t.now f }
 {
     if !t.has(f.rung) {

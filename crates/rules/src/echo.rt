@@ -2,27 +2,28 @@
 ghost use Rattle.std.specs.Prelude.{◌≡◌, Some};
 ghost use Rattle.rules.specs.Echo.{smooth, smooth_snr, smooth_echo, over_limit};
 
+use account::fixed::{ECHO_KEPT, ECHO_WEIGHT, SNR_KEPT, SNR_WEIGHT};
 use limits::reading::Reading;
 
 // What was smoothed before and a new value, by their weights; the first value as it is.
-fn smooth(old: f64, new: f64, y: Reading, x: f64) -> f64
-    ensures { Some result ≡ smooth old new y x }
+fn smooth(old: f64, new: f64, before: Reading, x: f64) -> f64
+    ensures { Some result ≡ smooth old new before x }
 {
-    y.map_or(x, |before| old * before + new * x)
+    before.map_or(x, |so_far| old * so_far + new * x)
 }
 
-// The smoothed SNR y after a reading; a missing one is no news.
-pub fn smooth_snr(y: Reading, snr: Reading) -> Reading
-    ensures { result ≡ smooth_snr y snr }
+// The smoothed SNR after a reading; a missing one, as of a slot in which nothing came, is no news.
+pub fn smooth_snr(before: Reading, snr: Reading) -> Reading
+    ensures { result ≡ smooth_snr before snr }
 {
-    snr.map_or(y, |x| Some(smooth(0.7, 0.3, y, x)))
+    snr.map_or(before, |x| Some(smooth(SNR_KEPT, SNR_WEIGHT, before, x)))
 }
 
-// The smoothed echo y after a share.
-pub fn smooth_echo(y: Reading, x: f64) -> Reading
-    ensures { result ≡ smooth_echo y x }
+// The smoothed echo after a share.
+pub fn smooth_echo(before: Reading, x: f64) -> Reading
+    ensures { result ≡ smooth_echo before x }
 {
-    Some(smooth(0.6, 0.4, y, x))
+    Some(smooth(ECHO_KEPT, ECHO_WEIGHT, before, x))
 }
 
 // Whether an echo is over a limit.

@@ -15,7 +15,7 @@ pub struct Marks {
 
 impl Marks {
     // The marks after a frame, as far as its family goes.
-    pub fn mark_family(self, t: &Table, f: Frame) -> Marks
+    pub(crate) fn mark_family(self, t: &Table, f: Frame) -> Marks
         ensures { result ≡ mark_family t.now f self }
     {
         if t.is_floor(f.rung) {
@@ -28,7 +28,7 @@ impl Marks {
     }
 
     // The marks after a frame, as far as the choice goes.
-    pub fn mark_choice(self, here: Rung, f: Frame) -> Marks
+    pub(crate) fn mark_choice(self, here: Rung, f: Frame) -> Marks
         ensures { result ≡ mark_choice here.0 f self }
     {
         if f.rung != here {
@@ -41,14 +41,14 @@ impl Marks {
     }
 
     // The failed mark after the pass.
-    pub fn judge_family(self, failed: bool) -> bool
+    pub(crate) fn judge_family(self, failed: bool) -> bool
         ensures { result ≡ family_mark self failed }
     {
         self.heard.map_or(failed, |heard| !heard)
     }
 
     // The clean mark after the pass.
-    pub fn clean_mark(self, here: Rung) -> Option<Rung>
+    pub(crate) fn clean_mark(self, here: Rung) -> Option<Rung>
         ensures { result ≡ choice_mark self here }
     {
         self.alone.unwrap_or(false).then_some(here)

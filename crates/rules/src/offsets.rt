@@ -5,20 +5,16 @@ ghost use Rattle.rules.specs.Booking.{clamp, moved, offset_step};
 ghost use Rattle.rules.specs.bridges.Pass.{offsets_by};
 
 use crate::types::Frame;
+use account::fixed::{LEAST_OFFSET_DB, MOST_OFFSET_DB};
 use account::types::Offsets;
 use ladder::types::Table;
 use limits::reading::Reading;
-
-// The ends of an offset, in dB.
-const OFFSET_MIN: f64 = -5.0;
-
-const OFFSET_MAX: f64 = 20.0;
 
 // An offset held to its ends.
 fn clamp_offset(x: f64) -> f64
     ensures { result ≡ clamp x }
 {
-    x.clamp(OFFSET_MIN, OFFSET_MAX)
+    x.clamp(LEAST_OFFSET_DB, MOST_OFFSET_DB)
 }
 
 // What a frame showed of its chance.
@@ -35,8 +31,8 @@ fn move_family(t: &Table, snr: f64, f: Frame, o: Offsets) -> Offsets
     ensures { result ≡ offset_step t.now snr f o }
 {
     let moved = |off| {
-        let c = account::price::prior_p(t, f.rung, off, snr);
-        clamp_offset(off + t.air.gain * (c - hit(f.decoded)))
+        let p = account::price::prior_p(t, f.rung, off, snr);
+        clamp_offset(off + t.air.gain * (p - hit(f.decoded)))
     };
     if f.combined {
         o
@@ -54,7 +50,7 @@ fn move_family(t: &Table, snr: f64, f: Frame, o: Offsets) -> Offsets
 }
 
 // Both offsets after a frame.
-pub fn move_offsets(t: &Table, snr: Reading, f: Frame, o: Offsets) -> Offsets
+pub(crate) fn move_offsets(t: &Table, snr: Reading, f: Frame, o: Offsets) -> Offsets
     ensures { result ≡ offsets_by t.now snr f o }
 {
     snr.map_or(o, |x| move_family(t, x, f, o))

@@ -34,7 +34,7 @@ fn add_rung(set: u32, r: Rung) -> u32
 
 impl Pass {
     // Before the first frame; the core's SNR is smoothed already.
-    pub fn begin(c: &Core) -> Pass
+    pub(crate) fn begin(c: &Core) -> Pass
         ensures { result ≡ begin_pass c.now }
     {
         Pass {
@@ -48,7 +48,7 @@ impl Pass {
 
     // One frame.
     #[tactic(auto, unfolding(crate::specs::bridges::Pass::pass_step))]
-    pub fn gather(&mut self, t: &Table, c: &Core, f: Frame)
+    pub(crate) fn gather(&mut self, t: &Table, c: &Core, f: Frame)
         ensures { self.new ≡ pass_step t.now c.now self.old f }
     {
         let here = t.rung_at(c.place);
@@ -75,16 +75,16 @@ impl Pass {
 // `Player`, which owns table and factors.)
 // One frame: it is booked, and what else the pass gathers.
 #[tactic(auto, unfolding(crate::specs::bridges::Pass::turned))]
-pub(crate) fn book(t: &Table, s: &mut State, fades: &mut Fades, y: &mut Pass, f: Frame)
+pub(crate) fn take_frame(t: &Table, s: &mut State, fades: &mut Fades, pass: &mut Pass, f: Frame)
     ensures accounts { s.new ≡ record s.old { accounts = booked_by t.now (turned t.now f.air fades.old).by f s.old.accounts } }
-    ensures pass { y.new ≡ pass_step t.now s.old.core y.old f }
+    ensures gathered { pass.new ≡ pass_step t.now s.old.core pass.old f }
     ensures fades_after { fades.new ≡ turned t.now f.air fades.old }
 {
     if !is_same(f.air, fades.air) {
         fades.fill(t, f.air);
     }
     book_frame(t, &mut s.accounts, fades, f);
-    y.gather(t, &s.core, f);
+    pass.gather(t, &s.core, f);
 }
 
 // All frames of a lent list.
@@ -94,9 +94,9 @@ pub fn book_frames(t: &Table, s: &mut State, fades: &mut Fades, frames: &[Frame]
     ensures pass { result ≡ pass_all t.now s.old.core (begin_pass s.old.core) frames.now }
     ensures fades_after { fades.new ≡ turned_all t.now fades.old frames.now }
 {
-    let mut y = Pass::begin(&s.core);
+    let mut pass = Pass::begin(&s.core);
     for f in frames {
-        book(t, s, fades, &mut y, *f);
+        take_frame(t, s, fades, &mut pass, *f);
     }
-    y
+    pass
 }

@@ -1,60 +1,51 @@
 // Judging and trying, as far as single values go.
-ghost use Rattle.std.specs.Prelude.{◌≡◌, ◌||◌, suc, ◌*◌, min, leb, ltb};
+ghost use Rattle.std.specs.Prelude.{◌≡◌, ltb};
 ghost use Rattle.std.specs.Bool.{beq};
-ghost use Rattle.rules.specs.Tries.{tries};
+ghost use Rattle.rules.specs.Tries.{tries, longer, try_over};
 ghost use Rattle.rules.specs.bridges.Pass.{is_own, count_own};
 
 use crate::types::Frame;
+use account::fixed::{PROBE_WAIT_MAX, TRY_CALLS, TRY_FRAMES};
 use account::types::Try;
 use ladder::types::{Rung, Table};
 
-// The longest wait before a rung is tried, in full transmissions.
-const PROBE_WAIT_MAX: u32 = 48;
-
-// How far under its wait in seconds a time may be.
-pub const WAIT_TOLERANCE_S: f64 = 1e-9;
-
-// A try is over at so many frames of its own, and at so many calls.
-const TRY_FRAMES: u32 = 3;
-
-const TRY_CALLS: u32 = 6;
-
 // Twice the wait, at most the longest.
 pub fn longer(w: u32) -> u32
-    ensures { result ≡ min 48 (2 * w) }
+    ensures { result ≡ longer w }
 {
     w.saturating_mul(2).min(PROBE_WAIT_MAX)
 }
 
 // Whether the rung r is being tried.
-pub fn is_trying(y: Option<Try>, r: Rung) -> bool
-    ensures { result ≡ tries y r.0 }
+pub fn is_trying(trying: Option<Try>, r: Rung) -> bool
+    ensures { result ≡ tries trying r.0 }
 {
-    y.is_some_and(|y| y.rung == r)
+    trying.is_some_and(|running| running.rung == r)
 }
 
 // Whether a frame went at the rung being tried.
-fn is_own(y: Option<Try>, f: Frame) -> bool
-    ensures { result ≡ is_own y f }
+fn is_own(trying: Option<Try>, f: Frame) -> bool
+    ensures { result ≡ is_own trying f }
 {
-    is_trying(y, f.rung)
+    is_trying(trying, f.rung)
 }
 
 // The count with a frame, no further than what decides.
 // (Only the frames of the try's own count, and a count past 3 stays: `min` would say neither.)
-pub fn count_own(y: Option<Try>, f: Frame, n: u32) -> u32
-    ensures { result ≡ count_own y f n }
+pub(crate) fn count_own(trying: Option<Try>, f: Frame, n: u32) -> u32
+    ensures { result ≡ count_own trying f n }
 {
-    if is_own(y, f) && n < TRY_FRAMES {
+    if is_own(trying, f) && n < TRY_FRAMES {
         n + 1
     } else {
         n
     }
 }
 
-// Whether a try is over with this call: so many own frames with the call's, and so many calls before it.
+// Whether a try is over with this call: so many own frames with the call's, and so many calls before it. One frame is a coin toss either way, so it takes
+// more of its own than the prior weighs, or, a frame or none a transmission, twice the transmissions that this takes.
 pub fn try_over(frames: u64, calls: u32) -> bool
-    ensures { result ≡ (leb 3 frames || leb 6 (suc calls)) }
+    ensures { result ≡ try_over frames calls }
 {
     frames >= TRY_FRAMES as u64 || calls >= TRY_CALLS - 1
 }

@@ -4,36 +4,37 @@ ghost use Rattle.std.specs.Bool.{beq};
 ghost use Rattle.ladder.specs.Types.{rung, rung_at, place_count, is_floor};
 ghost use Rattle.account.specs.Price.{value};
 ghost use Rattle.account.specs.State.{choice, wait_of};
-ghost use Rattle.rules.specs.Tries.{candidate, choose, waited, is_on, above, begins, decided, decide_try, decide};
+ghost use Rattle.rules.specs.Tries.{candidate, choose, waited, clean_climb, above, begins, decided, decide_try, decide};
 
 use crate::echo::echo_out;
 use crate::judge::usable_above;
-use account::state::PROBE_EVERY;
+use account::fixed::{ENOUGH_FRAMES, PROBE_EVERY, WAIT_TOLERANCE_S};
 use account::types::{State, Terms, Try};
 use ladder::types::{Place, Rung, Table};
 use rules::lowest::Found;
 
 // ---- the best place
-// Whether a place on the front may be chosen: not out, and at or below the choice or with over 2 decayed frames.
+// Whether a place on the front may be chosen: its rung not out, and down any rung (of one never sent the estimate is its prior), but up only one whose own
+// frames outweigh its prior: a try's, or frames that went there for another reason.
 fn is_candidate(t: &Table, s: &State, i: Place, r: Rung) -> bool
     requires { (i.0 < place_count t.now) × (r.0 ≡ rung_at t.now i.0) }
     ensures { result ≡ candidate t.now s.now i.0 }
 {
-    !echo_out(t, s, r) && (i <= s.core.place || s.account(r).frames > 2.0)
+    !echo_out(t, s, r) && (i <= s.core.place || s.account(r).frames > ENOUGH_FRAMES)
 }
 
 // The lowest of greatest value.
 // (`best_among` of echo.rt walks so by another test and to another end. One walk for both would take the test as a closure, and promise, for every rule
 // that the closure may answer by, what is found by that rule: more than the few lines that stand twice.)
 #[tactic(auto, unfolding(rules::specs::Tries::choose), using(rules::proofs::Greatest::start, rules::proofs::Greatest::turn, rules::proofs::Greatest::done, crate::proofs::Front::rung_here))]
-fn choose_place(k: Terms, s: &State) -> Option<Found>
-    ensures { result ≡ choose k.entry.table.now k.entry.prices.now s.now }
+fn choose_place(terms: Terms, s: &State) -> Option<Found>
+    ensures { result ≡ choose terms.entry.table.now terms.entry.prices.now s.now }
 {
     let mut best = None;
-    for (i, r) in k.table.front().iter().enumerate() {
+    for (i, r) in terms.table.front().iter().enumerate() {
         let place = Place(i as u32);
-        if is_candidate(k.table, s, place, *r) {
-            best = rules::lowest::better_of(best, place, k.value(s, *r));
+        if is_candidate(terms.table, s, place, *r) {
+            best = rules::lowest::better_of(best, place, terms.value(s, *r));
         }
     }
     best
@@ -41,43 +42,47 @@ fn choose_place(k: Terms, s: &State) -> Option<Found>
 
 // ---- whether a try begins; v is the choice's value, read once
 // Whether a rung has waited long enough.
-fn waited(k: Terms, s: &State, r: Rung) -> bool
-    ensures { result ≡ waited k.entry.table.now k.entry.prices.now s.now r.0 }
+fn waited(terms: Terms, s: &State, r: Rung) -> bool
+    ensures { result ≡ waited terms.entry.table.now terms.entry.prices.now s.now r.0 }
 {
-    s.since(r) >= k.wait_s(s, r) - rules::tries::WAIT_TOLERANCE_S
+    s.since(r) >= terms.wait_s(s, r) - WAIT_TOLERANCE_S
 }
 
-// Whether the rung above needs no wait, if its value is greater: the mark is on the choice, both rungs are of one family, and its wait is the shortest.
-fn is_clean(t: &Table, s: &State, up: Rung) -> bool
-    ensures { result ≡ (is_on s.now.core.clean (choice t.now s.now) && beq (is_floor t.now up.0) (is_floor t.now (choice t.now s.now)) && eqb (wait_of s.now up.0) 6) }
+// Whether the rung above needs no wait: every frame at the choice in the last transmission was decoded alone, both rungs are of one family, no try of the
+// upper one failed since it last carried (its wait is the shortest), and it is rated above the choice.
+#[tactic(auto, unfolding(rules::specs::Tries::clean_climb))]
+fn clean_climb(terms: Terms, s: &State, up: Rung, v: f64) -> bool
+    requires { v ≡ value terms.table.now terms.prices.now s.now (choice terms.table.now s.now) }
+    ensures { result ≡ clean_climb terms.entry.table.now terms.entry.prices.now s.now up.0 }
 {
-    let here = s.choice(t);
+    let here = s.choice(terms.table);
     s.core.clean == Some(here)
-        && rules::tries::same_family(t, up, here)
+        && rules::tries::same_family(terms.table, up, here)
         && s.wait(up) == PROBE_EVERY
+        && terms.value(s, up) > v
 }
 
 // The rung above, if it is tried now.
-#[tactic(auto, unfolding(rules::specs::Tries::clean_climb))]
-fn rung_to_try(k: Terms, s: &State, v: f64) -> Option<Rung>
-    requires { v ≡ value k.table.now k.prices.now s.now (choice k.table.now s.now) }
-    ensures { result ≡ (if begins k.entry.table.now k.entry.prices.now s.now then Some (rung (above k.entry.table.now s.now)) else None) }
+fn rung_to_try(terms: Terms, s: &State, v: f64) -> Option<Rung>
+    requires { v ≡ value terms.table.now terms.prices.now s.now (choice terms.table.now s.now) }
+    ensures { result ≡ (if begins terms.entry.table.now terms.entry.prices.now s.now then Some (rung (above terms.entry.table.now s.now)) else None) }
 {
-    let up = usable_above(k.table, s)?;
-    let is_tried = k.lossless_price(up) > v
-        && (waited(k, s, up) || is_clean(k.table, s, up) && k.value(s, up) > v);
+    let up = usable_above(terms.table, s)?;
+    let is_tried = terms.lossless_price(up) > v
+        && (waited(terms, s, up) || clean_climb(terms, s, up, v));
     is_tried.then_some(up)
 }
 
 // ---- what it leaves
-// The try: one that runs goes on if its rung is exactly above, and where none runs one of the rung above begins, or none. Answers whether one was begun.
-fn decide_try(k: Terms, s: &mut State, v: f64) -> bool
-    requires { v ≡ value k.table.now k.prices.now s.old (choice k.table.now s.old) }
-    ensures { decided s.new result ≡ decide_try k.entry.table.now k.entry.prices.now s.old s.old.core.trying }
+// The try: one that runs goes on if its rung is exactly above, and ends where the choice has moved from under it; where none runs one of the rung above
+// begins, or none. Answers whether one was begun.
+fn decide_try(terms: Terms, s: &mut State, v: f64) -> bool
+    requires { v ≡ value terms.table.now terms.prices.now s.old (choice terms.table.now s.old) }
+    ensures { decided s.new result ≡ decide_try terms.entry.table.now terms.entry.prices.now s.old s.old.core.trying }
 {
     match s.core.trying {
         None => {
-            let Some(rung) = rung_to_try(k, s, v) else {
+            let Some(rung) = rung_to_try(terms, s, v) else {
                 return false;
             };
             s.set_since(rung, 0.0);
@@ -88,9 +93,9 @@ fn decide_try(k: Terms, s: &mut State, v: f64) -> bool
             });
             true
         }
-        Some(y) => {
-            if usable_above(k.table, s) != Some(y.rung) {
-                s.core.trying = None;
+        Some(running) => {
+            if usable_above(terms.table, s) != Some(running.rung) {
+                s.cancel_try();
             }
             false
         }
@@ -99,18 +104,18 @@ fn decide_try(k: Terms, s: &mut State, v: f64) -> bool
 
 // Chooses a place, and begins, keeps or ends a try of the rung above it. Answers whether one was begun.
 #[tactic(auto, unfolding(rules::specs::Tries::decide))]
-pub(crate) fn decide(k: Terms, s: &mut State) -> bool
-    ensures { decided s.new result ≡ decide k.entry.table.now k.entry.prices.now s.old }
+pub(crate) fn decide(terms: Terms, s: &mut State) -> bool
+    ensures { decided s.new result ≡ decide terms.entry.table.now terms.entry.prices.now s.old }
 {
-    match choose_place(k, s) {
+    match choose_place(terms, s) {
         None => {
             s.core.place = Place(0);
-            s.core.trying = None;
+            s.cancel_try();
             false
         }
         Some(found) => {
             s.core.place = found.place;
-            decide_try(k, s, found.value)
+            decide_try(terms, s, found.value)
         }
     }
 }

@@ -4,8 +4,9 @@ ghost use Rattle.ladder.specs.Lists.{some_from};
 ghost use Rattle.ladder.specs.Types.{rung_at, place_count};
 ghost use Rattle.rules.specs.Echo.{echo_out, usable, end_if_out, echoed, highest, observe_echo, silent, first_place, seed, observe_snr, ofdm_at, all_out, refuses};
 ghost use Rattle.rules.specs.Lowest.{improved, greatest};
-ghost use Rattle.steps.specs.bridges.Worth.{place_value};
+ghost use Rattle.steps.specs.bridges.PlaceValue.{place_value};
 
+use account::fixed::ECHO_MIN_SNR_DB;
 use account::types::{State, Terms};
 use ladder::types::{Place, Rung, Table};
 use limits::reading::Reading;
@@ -30,51 +31,54 @@ pub(crate) fn usable(t: &Table, s: &State, i: Place) -> bool
 // ---- the lowest of greatest value
 // The best by value at an SNR of the usable ones among the first n places.
 #[tactic(auto, using(crate::proofs::Front::start_usable, crate::proofs::Front::met_under, crate::proofs::Front::rung_under, crate::proofs::Front::usable_here, rules::proofs::Greatest::turn, rules::proofs::Greatest::done))]
-fn best_among(k: Terms, s: &State, snr: Reading, n: u32) -> Option<Found>
-    ensures { result ≡ greatest n 0 (usable k.entry.table.now s.now) (place_value k.entry.table.now k.entry.prices.now s.now snr) None }
+fn best_among(terms: Terms, s: &State, snr: Reading, n: u32) -> Option<Found>
+    ensures { result ≡ greatest n 0 (usable terms.entry.table.now s.now) (place_value terms.entry.table.now terms.entry.prices.now s.now snr) None }
 {
-    let front = k.table.front();
+    let front = terms.table.front();
     let mut best = None;
     for (i, r) in front[..front.len().min(n as usize)].iter().enumerate() {
-        if !echo_out(k.table, s, *r) {
-            best = rules::lowest::better_of(best, Place(i as u32), k.value_at(s, *r, snr));
+        if !echo_out(terms.table, s, *r) {
+            best = rules::lowest::better_of(best, Place(i as u32), terms.value_at(s, *r, snr));
         }
     }
     best
 }
 
 // ---- the calls
-// A running try ends if its rung is out.
+// A running try ends if the echo now rules its rung out.
 fn end_if_out(t: &Table, s: &mut State)
     ensures { s.new ≡ end_if_out t.now s.old s.old.core.trying }
 {
-    if s.core.trying.is_some_and(|y| echo_out(t, s, y.rung)) {
-        s.core.trying = None;
+    if s.core
+        .trying
+        .is_some_and(|running| echo_out(t, s, running.rung))
+    {
+        s.cancel_try();
     }
 }
 
 // What an echo that was just smoothed does to try and choice.
 #[tactic(auto, unfolding(account::specs::Price::value))]
-fn obey_echo(k: Terms, s: &mut State)
-    ensures { s.new ≡ echoed k.entry.table.now k.entry.prices.now s.old }
+fn obey_echo(terms: Terms, s: &mut State)
+    ensures { s.new ≡ echoed terms.entry.table.now terms.entry.prices.now s.old }
 {
-    end_if_out(k.table, s);
-    let here = s.choice(k.table);
-    if echo_out(k.table, s, here) {
-        s.core.place = best_place(best_among(k, s, s.core.snr, s.core.place.0));
+    end_if_out(terms.table, s);
+    let here = s.choice(terms.table);
+    if echo_out(terms.table, s, here) {
+        s.core.place = best_place(best_among(terms, s, s.core.snr, s.core.place.0));
     }
 }
 
-// A frame's echo reading: a missing share, or an SNR under the echo floor, -6 dB, changes nothing. (A NaN is not under it: so says `lt` of the rule.)
+// A frame's echo reading: a missing share, or an SNR under the echo floor, changes nothing. (A NaN is not under it: so says `lt` of the rule.)
 // (Share and SNR, as in the source's call: see rate's calls.rt.)
 #[tactic(auto, unfolding(rules::specs::Echo::observe_echo))]
-pub fn observe_echo(k: Terms, s: &mut State, share: Reading, snr: f64)
-    ensures { s.new ≡ observe_echo k.entry.table.now k.entry.prices.now s.old share snr }
+pub fn observe_echo(terms: Terms, s: &mut State, share: Reading, snr: f64)
+    ensures { s.new ≡ observe_echo terms.entry.table.now terms.entry.prices.now s.old share snr }
 {
     if let Some(x) = share {
-        if !(snr < -6.0) {
+        if !(snr < ECHO_MIN_SNR_DB) {
             s.core.echo = rules::echo::smooth_echo(s.core.echo, x);
-            obey_echo(k, s);
+            obey_echo(terms, s);
         }
     }
 }
@@ -92,30 +96,30 @@ fn highest_from(t: &Table, s: &State, top: Place) -> Place
     Place(0)
 }
 
-// A transmission went unanswered: a try ends, and the choice steps down.
+// A transmission went unanswered: a try ends, and the choice steps down as the link engine steps its own, to a rung that the echo allows.
 #[tactic(auto, unfolding(rules::specs::Echo::silent))]
 pub fn silent(t: &Table, s: &mut State, steps: u32)
     ensures { s.new ≡ silent t.now s.old steps }
 {
     let top = Place(s.core.place.0.saturating_sub(steps));
     s.core.place = highest_from(t, s, top);
-    s.core.trying = None;
+    s.cancel_try();
 }
 
-// The place that a session starts at from one reading.
-pub fn first_place(k: Terms, s: &State, snr: f64) -> Place
-    ensures { result.0 ≡ first_place k.entry.table.now k.entry.prices.now s.now snr }
+// The place that a session starts at from one reading, with no steps in hand: the best that the prior, which is an optimist, makes of it.
+pub fn first_place(terms: Terms, s: &State, snr: f64) -> Place
+    ensures { result.0 ≡ first_place terms.entry.table.now terms.entry.prices.now s.now snr }
 {
-    best_place(best_among(k, s, Some(snr), k.table.place_count()))
+    best_place(best_among(terms, s, Some(snr), terms.table.place_count()))
 }
 
 // Starts from a reading, unless an SNR is known.
 #[tactic(auto, unfolding(rules::specs::Echo::seed))]
-pub fn seed(k: Terms, s: &mut State, snr: f64)
-    ensures { s.new ≡ seed k.entry.table.now k.entry.prices.now s.old snr }
+pub fn seed(terms: Terms, s: &mut State, snr: f64)
+    ensures { s.new ≡ seed terms.entry.table.now terms.entry.prices.now s.old snr }
 {
     if s.core.snr.is_none() {
-        s.core.place = first_place(k, s, snr);
+        s.core.place = first_place(terms, s, snr);
         s.core.snr = Some(snr);
     }
 }
@@ -153,7 +157,8 @@ fn is_all_out(t: &Table, s: &State) -> bool
     !has_ofdm_in(t, s) && has_ofdm(t)
 }
 
-// Whether a rung's family is refused on this path.
+// Whether a rung's family is refused on this path: never the floor's; OFDM once the choice has gone to the floor after OFDM frames that delivered nothing,
+// or where the echo rules every OFDM rung out.
 #[tactic(auto, unfolding(rules::specs::Echo::refuses))]
 pub fn refuses(t: &Table, s: &State, r: Rung) -> bool
     ensures { result ≡ refuses t.now s.now r.0 }

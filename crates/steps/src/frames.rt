@@ -24,12 +24,12 @@ fn pass_times(t: &Table, s: &mut State, air: f64)
 
 // After the pass: times go on, the rungs sent are judged, a running try is counted, and `decide` has the last word. Answers whether a try was begun.
 #[tactic(auto, unfolding(rules::specs::bridges::Pass::decided_pass, rules::specs::bridges::Pass::finish_pass))]
-pub fn transmit(k: Terms, s: &mut State, y: &Pass) -> bool
-    ensures { decided s.new result ≡ decided_pass k.entry.table.now k.entry.prices.now s.old y.now }
+pub fn transmit(terms: Terms, s: &mut State, pass: &Pass) -> bool
+    ensures { decided s.new result ≡ decided_pass terms.entry.table.now terms.entry.prices.now s.old pass.now }
 {
-    pass_times(k.table, s, y.air);
-    y.finish(k.table, &mut s.core);
-    judge_sent(k, s, y.sent);
-    count_try(k, s, y.own);
-    decide(k, s)
+    pass_times(terms.table, s, pass.air);
+    pass.finish(terms.table, &mut s.core);
+    judge_sent(terms, s, pass.sent);
+    count_try(terms, s, pass.own);
+    decide(terms, s)
 }

@@ -37,7 +37,7 @@ use Rattle.rate.specs.declared.types.Answer.{Answer}
 use Rattle.rate.specs.Calls.{Call, Frames, Echo, Silence, Snr, Seed, Price, Family, verdict, accepted, step, after}
 use Rattle.waiting.specs.Waiting.{Fresh, fresh, taken, carried_frames, carries, frame_call, frame_calls, call_airs, air_sent, bound, Quiet, Outbid, Throughout, Demand3}
 use Rattle.rate.proofs.Stepping.{accepted_says, accepted_step, by_verdict, table_kept}
-use Rattle.waiting.proofs.Deadline.{deadline, not_yet, waited}
+use Rattle.waiting.proofs.Deadline.{deadline, not_yet, under_longest}
 use Rattle.waiting.proofs.Sound.{Sound, call_natural, step_sound, after_sound, fresh_sound}
 use Rattle.waiting.proofs.Tries.{tries_end, marks_tell}
 
@@ -198,7 +198,7 @@ runs_short k s run n h =
     let u = rung_at t (suc i) in
     let at = there k s (suc i) (first i p k run h).above_allowed in
     let w = wait_of k.state u in
-    waited w (full_air t p u) (wait_is k.state s.ticks u at.2) (full_finite t p s.table s.tariff u at.1) (full_natural t p s.table s.tariff u at.1)
+    under_longest w (full_air t p u) (wait_is k.state s.ticks u at.2) (full_finite t p s.table s.tariff u at.1) (full_natural t p s.table s.tariff u at.1)
     (call_airs k run) (since_of k.state u) (airs_natural run k) (time_natural k.state s.ticks u at.2) (goes t i p w run k refl refl s h (inr n))
 
 fresh_idle : (k : RateController) → Fresh k → runs k.state.core.trying ≡ false

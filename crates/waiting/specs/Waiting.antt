@@ -2,7 +2,7 @@
 -- "choice, echo, values and the prices set are those that the steps above give for the list so far", so all is read off `step` and `after`. Definitions only.
 use Rattle.std.specs.Prelude.{◌≡◌, Bool, true, false, not, ◌&&◌, ◌||◌, cond, List, [], ◌∷◌, ◌++◌, ℕ, suc, ◌≤◌, T, Float, Ok, Err, None, Option}
 use Rattle.std.specs.Float.Ieee.{lt}
-use Rattle.float.specs.Numbers.{f64, ◌⊖◌, ◌⊗◌, f0}
+use Rattle.float.specs.Numbers.{◌⊖◌, ◌⊗◌, of_nat, f0}
 use Rattle.float.specs.Sum.{total}
 use Rattle.limits.specs.Refusals.{Verdict}
 use Rattle.limits.specs.Readings.{Reading}
@@ -10,12 +10,12 @@ use Rattle.ladder.specs.Types.{rung_at}
 use Rattle.ladder.specs.Tables.{Columns, table_verdict, table_of, for_air}
 use Rattle.account.specs.declared.types.Tariff.{Tariff}
 use Rattle.account.specs.declared.types.State.{State}
+use Rattle.account.specs.Fixed.{longest_wait, wait_tolerance}
 use Rattle.account.specs.State.{runs}
 use Rattle.account.specs.Price.{value, lossless_price, full_air}
 use Rattle.rules.specs.declared.types.Frame.{Frame}
 use Rattle.rules.specs.Echo.{usable}
 use Rattle.rules.specs.Booking.{sent, call_air}
-use Rattle.rules.specs.Tries.{nano}
 use Rattle.rules.specs.Transmission.{inside}
 use Rattle.rate.specs.declared.types.RateController.{RateController}
 use Rattle.rate.specs.Calls.{Call, Frames, Echo, Silence, Snr, Seed, Price, Family, fresh_controller, step, after}
@@ -82,12 +82,8 @@ abbrev pub air_sent : RateController → List Call → Float
 air_sent k calls = total f0 (call_airs k calls)
 
 -- "(48 × full-transmission air) - 1e-9, each step rounded", at "the rung above", which "is the next place's"
--- 48.0
-abbrev pub f48 : Float
-f48 = f64 0x4048_0000_0000_0000
-
 abbrev pub bound : RateController → Float
-bound k = f48 ⊗ full_air k.table k.prices.tariff (rung_at k.table (suc k.state.core.place.0)) ⊖ nano
+bound k = of_nat longest_wait ⊗ full_air k.table k.prices.tariff (rung_at k.table (suc k.state.core.place.0)) ⊖ wait_tolerance
 
 -- ---- a run's conditions, i being the choice at its start and p the prices set then
 -- "its conditions hold before and after each call"

@@ -6,7 +6,8 @@ use Rattle.ladder.specs.declared.types.Table.{Table}
 use Rattle.ladder.specs.Types.{rung_count, in_table}
 use Rattle.account.specs.declared.types.Account.{Account}
 use Rattle.account.specs.State.{no_account}
-use Rattle.rules.specs.Booking.{Frame, f12, aged, gained}
+use Rattle.account.specs.Fixed.{half_life}
+use Rattle.rules.specs.Booking.{Frame, aged, gained}
 use Rattle.rules.specs.bridges.Pass.{Fades, turned}
 
 -- n accounts from i on
@@ -18,7 +19,7 @@ aged_by (suc n) i by l = aged_by n (suc i) by (slice_set l i (aged (slice_index_
 unfoldable pub booked_by : Table → List Float → Frame → List Account → List Account
 booked_by t by f l =
     let all = aged_by (rung_count t) 0 by l in
-    cond (in_table t f.rung.0) (slice_set all f.rung.0 (gained f (aged (half (f1 ⊘ f12)) (slice_index_or l f.rung.0 no_account)))) all
+    cond (in_table t f.rung.0) (slice_set all f.rung.0 (gained f (aged (half (f1 ⊘ half_life)) (slice_index_or l f.rung.0 no_account)))) all
 
 -- frames in order, each by the factors for its air
 unfoldable pub booked_all : Table → Fades → List Frame → List Account → List Account

@@ -17,7 +17,8 @@ use Rattle.account.specs.declared.types.Offsets.{Offsets}
 use Rattle.account.specs.declared.types.Prices.{Prices}
 use Rattle.account.specs.declared.types.State.{State}
 use Rattle.account.specs.declared.types.Core.{Core}
-use Rattle.rules.specs.Booking.{Frame, at, f12, offset_step, book, passed}
+use Rattle.account.specs.Fixed.{half_life, try_frames}
+use Rattle.rules.specs.Booking.{Frame, at, offset_step, book, passed}
 use Rattle.rules.specs.Tries.{Decided, counted, decide}
 use Rattle.rules.specs.bridges.Sets.{judge_set}
 pub use Rattle.rules.specs.declared.accounts.Fade.{Fade}
@@ -32,7 +33,7 @@ add_rung set r = cond (ltb r 32) (bit_or set (2 ^ r)) set
 -- ---- ageing
 -- "other rungs age by half(air/(12 × own frame time))"
 abbrev pub factor : Float → Float → Float
-factor air time = half (air ⊘ (f12 ⊗ time))
+factor air time = half (air ⊘ (half_life ⊗ time))
 
 -- rungs of one frame time share it: the last one where the frame time is the last one's, above 0; else a new one
 abbrev pub fade_at : Float → Float → Fade → Fade
@@ -90,7 +91,7 @@ is_own None f = false
 is_own (Some y) f = at y.rung.0 f
 
 abbrev pub count_own : Trying → Frame → ℕ → ℕ
-count_own y f n = cond (is_own y f) (cond (ltb n 3) (suc n) n) n
+count_own y f n = cond (is_own y f) (cond (ltb n try_frames) (suc n) n) n
 
 -- ---- the pass
 -- before the first frame; the core's SNR is smoothed already

@@ -10,6 +10,6 @@ invariant-loop-f l =
     let rest = drop l.f-index l.frames in
     record {
       accounts : ◌≡◌ {A = State} (record l.s { accounts = booked_all l.t l.fades rest l.s.accounts }) (record l.initial.s { accounts = booked_all l.t l.initial.fades l.frames l.initial.s.accounts });
-      pass : pass_all l.t l.s.core l.y rest ≡ pass_all l.t l.initial.s.core (begin_pass l.initial.s.core) l.frames;
+      pass : pass_all l.t l.s.core l.pass rest ≡ pass_all l.t l.initial.s.core (begin_pass l.initial.s.core) l.frames;
       fades : turned_all l.t l.fades rest ≡ turned_all l.t l.initial.fades l.frames;
     }

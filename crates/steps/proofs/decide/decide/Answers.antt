@@ -4,4 +4,4 @@ use Rattle.steps.proofs.Decided.{chosen}
 use Rattle.steps.proofs.decide.decide.Goals as goal
 
 pub decide_try-requires : goal.decide_try-requires
-decide_try-requires c = chosen c.args.k.table.now c.args.k.prices.now c.args.s.now c.in-Some.found.place c.in-Some.found.value (sym c.choose_place.ensures ∙ c.in-Some.is)
+decide_try-requires c = chosen c.args.terms.table.now c.args.terms.prices.now c.args.s.now c.in-Some.found.place c.in-Some.found.value (sym c.choose_place.ensures ∙ c.in-Some.is)

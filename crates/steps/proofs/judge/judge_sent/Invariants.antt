@@ -5,7 +5,7 @@ use Rattle.rules.specs.bridges.Sets.{judge_set}
 use Rattle.steps.proofs.judge.judge_sent.Given as goal
 
 abbrev pub invariant-loop-left : goal.invariant-loop-left
-invariant-loop-left l = record { fits : l.left < 2 ^ 32; judged : judge_set l.left l.k.table.now l.k.prices.now l.s ≡ judge_set l.sent l.k.table.now l.k.prices.now l.initial.s }
+invariant-loop-left l = record { fits : l.left < 2 ^ 32; judged : judge_set l.left l.terms.table.now l.terms.prices.now l.s ≡ judge_set l.sent l.terms.table.now l.terms.prices.now l.initial.s }
 
 abbrev pub decreases-loop-left : goal.decreases-loop-left
 decreases-loop-left l = ones l.left

@@ -14,4 +14,4 @@ returns c =
     let n : ℕ = rung_count a.t.now in
     let long : length l.by-items ≡ n = omega arith in
     let e : l.by-items ≡ tabulate n 0 (λ r. factor a.air (row a.t.now r).time) = filled_done a.t.now a.air l.by-items long (λ r h. l.invariant.filled r (omega arith)) in
-    rw (c.rungs-n.ensures, e) refl
+    rw (c.rung_count-n.ensures, e) refl

@@ -1,4 +1,4 @@
--- What the rung at a place is worth at an SNR: the value of the rules where that is the smoothed one, and what `first_place` ranks by where it is one reading.
+-- The value of the rung at a place at an SNR: that of the rules where that is the smoothed one, and what `first_place` ranks by where it is one reading.
 -- Definitions only.
 use Rattle.std.specs.Prelude.{ℕ, Float}
 use Rattle.limits.specs.Readings.{Reading}
