@@ -80,7 +80,8 @@ impl Tariff {
         if floor { self.floor } else { self.ordinary }
     }
 
-    // What an exchange takes beside its data frames, of a rung that is floor or not.
+    // What an exchange takes beside its data frames, of a rung that is floor or not: the control frame that announces them, the other station's answer, and
+    // the gaps before the answer and after it.
     fn overhead(&self, families: Option<Families>, floor: bool) -> f64
         ensures { result ≡ overhead_of self.now families floor }
     {
@@ -110,7 +111,7 @@ impl Terms<'_> {
     }
 
     // ---- value
-    // What the rungs are ranked by, at an SNR: the estimate there, priced.
+    // What the rungs are ranked by, at an SNR: the estimate there, per second of a whole exchange where lengths are set.
     pub fn value_at(self, s: &State, r: Rung, snr: Reading) -> f64
         ensures { result ≡ priced self.entry.table.now self.entry.prices.now r.0 (estimate_at self.entry.table.now s.now r.0 snr) }
     {
@@ -147,7 +148,8 @@ impl Terms<'_> {
         given.unwrap_or(1) as f64 * self.table.row(r).time
     }
 
-    // A rung's wait in seconds: so many full transmissions.
+    // The air to let go by before a rung is tried: so many full transmissions at that rung. (Counted in transmissions of whatever was sent, it would be six
+    // long ones at the floor before a try of an OFDM rung.)
     #[tactic(auto, unfolding(crate::specs::Price::wait_s))]
     pub fn wait_s(self, s: &State, r: Rung) -> f64
         ensures { result ≡ wait_s self.entry.table.now self.entry.prices.now.tariff s.now r.0 }

@@ -2,7 +2,8 @@
 use ladder::types::{Place, Rung, Table};
 use limits::reading::Reading;
 
-// A rung's measured delivery, decayed: data bytes delivered, seconds of air spent, frames sent.
+// A rung's measured delivery, decayed: data bytes delivered, seconds of air spent, frames sent. Each copy of a frame spends its air, one never detected
+// too.
 #[derive(Clone, Copy, PartialEq, Debug)]
 pub struct Account {
     pub bytes: f64,

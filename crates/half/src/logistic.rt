@@ -20,7 +20,8 @@ pub fn exp(y: f64) -> f64
 
 // ---- the logistic
 // (The three numbers of document 01's "d = (SNR - threshold)/slope" meet here only: a struct of them would be made at each call, to be taken apart there.)
-// The chance that a frame decodes, for inner use: the prior may pass the limits on dB values.
+// The chance that a frame decodes: a logistic through 90 % at the threshold, which is where a rung loses one frame in ten. For inner use: the prior may
+// pass the limits on dB values.
 #[tactic(auto, unfolding(crate::specs::Logistic::decode_probability))]
 pub fn logistic(snr_db: f64, threshold_db: f64, slope_db: f64) -> f64
     ensures { result ≡ decode_probability snr_db threshold_db slope_db }

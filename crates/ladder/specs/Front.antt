@@ -16,8 +16,11 @@ pub record OneLength (thresholds : List Float) (payloads : List ℕ) (times : Li
   pub time : length times ≡ length thresholds
 
 -- "of `frames.rs` only `DATA_HEADER` = 3 is used": a frame's data bytes, of its payload
+abbrev pub data_header : ℕ
+data_header = 3
+
 abbrev pub data_of : ℕ → ℕ
-data_of payload = payload - 3
+data_of payload = payload - data_header
 
 -- "Worth is (payload less 3, never below 0)/frame time."
 abbrev pub worth : ℕ → Float → Float

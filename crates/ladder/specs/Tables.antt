@@ -80,12 +80,18 @@ row_of c r = cond (ltb r (length c.thresholds)) (record {
 unfoldable pub rows_of : Columns → List Row
 rows_of c = tabulate 32 0 (row_of c)
 
--- "Margin and family gain are .., else 3 and 0.5."
+-- "Margin and family gain are 1 and 1 after `for_air(true)`, else 3 and 0.5."
 abbrev pub prior_margin : Float
 prior_margin = f64 0x4008_0000_0000_0000
 
 abbrev pub family_gain : Float
 family_gain = f½
+
+abbrev pub wide_prior_margin : Float
+wide_prior_margin = f1
+
+abbrev pub wide_family_gain : Float
+wide_family_gain = f1
 
 -- a table of its rows, the counts of rungs and of floor rungs, and the front
 abbrev pub table_from : List Row → ℕ → ℕ → Front → Table
@@ -98,13 +104,13 @@ table_from rows count floors offered = record {
 unfoldable pub table_of : Columns → Table
 table_of c = table_from (rows_of c) (length c.thresholds) c.floors (front_as (front_of_columns c))
 
--- "Margin and family gain are 1 and 1 after `for_air(true)`": `for_air(false)` leaves them
+-- `for_air(false)` leaves them
 abbrev pub air_for : Air → Bool → Air
 air_for a wide = record {
   count = a.count;
   floors = a.floors;
-  margin = cond wide f1 a.margin;
-  gain = cond wide f1 a.gain;
+  margin = cond wide wide_prior_margin a.margin;
+  gain = cond wide wide_family_gain a.gain;
 }
 
 abbrev pub for_air : Table → Bool → Table

@@ -120,7 +120,7 @@ impl FrontColumns<'_> {
     // Why a front of these columns is refused, if it is. (These are tests that `Columns` makes of its columns too, each with the conditions of more
     // columns between them. To make those of these would be to have both definitions in another order, for no shorter a function.)
     #[tactic(auto, unfolding(crate::specs::Front::front_verdict))]
-    fn verdict(&self) -> Verdict
+    fn front_verdict(&self) -> Verdict
         ensures { result ≡ front_verdict self.now.thresholds.now self.now.payloads.now self.now.times.now }
     {
         let n = self.thresholds.len();
@@ -137,7 +137,9 @@ impl FrontColumns<'_> {
     }
 }
 
-// The front of any table, comparing data bytes per second: what tells the floor's long frames from the ordinary ones.
+// The front of any table: a rung that another one beats on both counts, threshold and worth, is never worth choosing. Worth is data bytes per second,
+// which tells the floor's long frames from the ordinary ones. It is of data, and not of payload, since a header weighs more in a short frame: by payload
+// a frame of 15 bytes in 1.054 s would beat one of 75 in 5.36 s, which carries more data a second.
 #[tactic(auto, using(crate::proofs::Accepted::front_columns), unfolding(crate::specs::Front::usable_of))]
 pub fn usable_modes_by_rate(
     thresholds: &[f64],
@@ -151,7 +153,7 @@ pub fn usable_modes_by_rate(
         payloads: payload,
         times: frame_s,
     };
-    columns.verdict()?;
+    columns.front_verdict()?;
     Ok(columns.front())
 }
 

@@ -3,7 +3,7 @@ ghost use Rattle.std.specs.Prelude.{◌≡◌, drop, take};
 ghost use Rattle.question.specs.Bytes.{byte, le16, le32, le64, le_f64, ok_reading, reading_of};
 ghost use Rattle.question.specs.Body.{first_of};
 
-use le_f64::bits::float_of;
+use float::bits::float_of;
 use limits::reading::Reading;
 use std::array;
 

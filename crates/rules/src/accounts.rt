@@ -1,4 +1,5 @@
-// What a frame does to the accounts: it ages those of the other rungs by its air, and its own by one frame, which then gains.
+// What a frame does to the accounts: it ages those of the other rungs by its air, and its own by one frame, which then gains. Whatever rung the air went
+// at, an account ages by it in frames of its own rung.
 ghost use Rattle.std.specs.Prelude.{◌≡◌, ◌&&◌, ◌≤◌, length};
 ghost use Rattle.std.specs.Float.Ieee.{lt, eq};
 ghost use Rattle.float.specs.Numbers.{f0};

@@ -1,4 +1,5 @@
-// How far each family's rungs are read under the SNR: each frame that was not combined moves its family's offset by its surprise.
+// How far each family's rungs are read under the SNR: each frame that was not combined moves its family's offset by its surprise, what was expected of it
+// less what it did, so that a family that fails is walked down.
 ghost use Rattle.std.specs.Prelude.{◌≡◌, cond};
 ghost use Rattle.float.specs.Numbers.{f0, f1};
 ghost use Rattle.rules.specs.Booking.{clamp, moved, offset_step};
