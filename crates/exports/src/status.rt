@@ -6,14 +6,14 @@ ghost use Rattle.exports.specs.Status.{minus_number, status};
 
 use limits::refusal::Refusal;
 
-pub fn minus_number(why: Refusal) -> i64
+pub(crate) fn minus_number(why: Refusal) -> i64
     ensures { result ≡ minus_number why }
 {
     -i64::from(why.number())
 }
 
 // What C is told of a number or a refusal.
-pub fn status(said: Result<u32, Refusal>) -> i64
+pub(crate) fn status(said: Result<u32, Refusal>) -> i64
     ensures { result ≡ status said }
 {
     said.map_or_else(minus_number, i64::from)

@@ -1,15 +1,15 @@
 -- Sums, differences and products keep the order. Assumes nothing.
-use mathlib.Core.Path.{◌≡◌, refl, sym, ◌∙◌, subst}
+use mathlib.Core.Path.{◌≡◌, refl, sym, subst}
 use mathlib.Core.Logic.{inl, inr}
 use Prim.Native.Nat.{ℕ, zero, suc, ◌+◌, ◌-◌, ◌*◌, ◌^◌, ◌≤◌, ◌<◌, zero-le}
-use native.Mathlib.Nat.{le_refl, le_of_eq, le_trans, zero-mul, mul-zero, mul-one, mul_comm, mul_assoc, mul_left_comm, add-mul, mul-le-mul_right, mul-pos, mul-le-mul, mul-mul-mul_comm, eq_of_mul-eq-mul_right}
+use native.Mathlib.Nat.{le_refl, le_of_eq, le_trans, zero-mul, mul-zero, mul-one, mul_comm, mul_assoc, mul_left_comm, add-mul, mul-le-mul_right, mul-pos, mul-le-mul, mul-mul-mul_comm}
 use native.Mathlib.Omega.{arith}
-use mathlib.Core.Bool.{Bool, true, false, not, ◌&&◌, cond}
-use lib.Dec.{T, ltb, eqb}
+use mathlib.Core.Bool.{Bool, true, false, cond}
+use lib.Dec.{T, ltb}
 use lib.Pow.{pow_pos}
 use lib.IntN.{ℤ}
-use lib.Ieee.{Float, nan, inf, fin, Format, binary64, of_bits, prec, low, emax, up, odd, units, round, neg, add, sub, mul, le}
-use lib.Ieee.Fits.{round_is, up_pos, eq→eqb, and_l, and_r}
+use lib.Ieee.{Float, nan, inf, fin, Format, binary64, of_bits, prec, low, emax, odd, units, round, neg, add, sub, mul, le}
+use lib.Ieee.Fits.{round_is}
 use lib.Ieee.Scale.{finite}
 use lib.Ieee.Positive.{den, den_pos}
 use Rattle.float.proofs.Order.{plus, minus, number, cross≤, Le, le→LE, le_le, le_self, le_left, le_right}
@@ -222,45 +222,3 @@ between_limits (fin s m e) (fin t n d) hi p q h k = tt
 pub zero_is : of_bits binary64 0 ≡ zero64
 unfolding of_bits
 zero_is = refl
-
--- ---- the product of values that are at least 0, infinities included
-no_digits : (n : ℕ) (d : ℤ) → natural (fin true n d) → T (eqb n 0)
-no_digits n d h = eq→eqb {a = n} {b = 0} (eq_of_mul-eq-mul_right (up d) (up_pos d) n 0 (no_minus (fin true n d) tt h ∙ sym (zero-mul (up d))))
-
--- ∞ times what is at least 0, if it is no NaN, is ∞
-by_infinity : (t : Bool) (n : ℕ) (d : ℤ) → natural (fin t n d) → T (number (cond (eqb n 0) nan (inf t))) → cond (eqb n 0) nan (inf t) ≡ inf false
-by_infinity false n d h p = go (eqb n 0) p
-  where
-    go : (b : Bool) → T (number (cond b nan (inf false))) → cond b nan (inf false) ≡ inf false
-    go true p = absurd p
-    go false p = refl
-by_infinity true n d h p = go (eqb n 0) (no_digits n d h) p
-  where
-    go : (b : Bool) → T b → T (number (cond b nan (inf true))) → cond b nan (inf true) ≡ inf false
-    go true z p = absurd p
-    go false z p = absurd z
-
-infinite : (f : Format) (x y : Float) → natural x → natural y → T (not (finite x && finite y)) → T (number (mul f x y)) → mul f x y ≡ inf false
-unfolding mul le
-infinite f nan y h k i p = absurd h
-infinite f (inf true) y h k i p = absurd h
-infinite f (inf false) nan h k i p = absurd k
-infinite f (inf false) (inf true) h k i p = absurd k
-infinite f (inf false) (inf false) h k i p = refl
-infinite f (inf false) (fin true n d) h k i p = by_infinity true n d k p
-infinite f (inf false) (fin false n d) h k i p = by_infinity false n d k p
-infinite f (fin s m e) nan h k i p = absurd k
-infinite f (fin s m e) (inf true) h k i p = absurd k
-infinite f (fin true m e) (inf false) h k i p = by_infinity true m e h p
-infinite f (fin false m e) (inf false) h k i p = by_infinity false m e h p
-infinite f (fin s m e) (fin t n d) h k i p = absurd i
-
-pub mul_mono : (f : Format) (x x' y y' : Float) → natural x → natural y → T (le x x') → T (le y y') → T (number (mul f x y)) → T (number (mul f x' y')) → T (le (mul f x y) (mul f x' y'))
-mul_mono f x x' y y' nx ny h k p q = go (finite x' && finite y') (λ (t : T (finite x' && finite y')). t) (λ (t : T (not (finite x' && finite y'))). t)
-  where
-    go : (b : Bool) → (T b → T (finite x' && finite y')) → (T (not b) → T (not (finite x' && finite y'))) → T (le (mul f x y) (mul f x' y'))
-    go true u v =
-        let fx' = and_l (finite x') (finite y') (u tt) in
-        let fy' = and_r (finite x') (finite y') (u tt) in
-        mul_mono_finite f x x' y y' (between_limits zero64 x x' tt fx' nx h) fx' (between_limits zero64 y y' tt fy' ny k) fy' nx ny h k
-    go false u v = rw (infinite f x' y' (le_le zero64 x x' nx h) (le_le zero64 y y' ny k) (v tt) q) (top (mul f x y) p)

@@ -1,7 +1,7 @@
 -- A front by the rungs' offers, each worth divided once, is the front of the rules. Assumes nothing.
 use mathlib.Core.Path.{◌≡◌, refl, ap, ◌∙◌}
 use mathlib.Core.Bool.{Bool, true, false, not, ◌&&◌}
-use mathlib.Core.List.{List, map}
+use mathlib.Core.List.{List}
 use Prim.Native.Nat.{ℕ, zero, suc, ◌<◌, ◌≤◌}
 use native.Mathlib.Nat.{not-suc-le-zero, le_of_suc-le-suc, zero-add}
 use native.Mathlib.Numerals.{add-one}
@@ -11,7 +11,7 @@ use lib.ListN.{length, get_or, take}
 use Rattle.std.specs.List.{list_any, enumerate_from}
 use Rattle.float.specs.Numbers.{f0}
 use Rattle.ladder.specs.Lists.{tabulate, some_from}
-use Rattle.ladder.specs.Front.{worth_at, worths_of, beats, beaten}
+use Rattle.ladder.specs.Front.{worth_at, beats, beaten}
 use Rattle.ladder.specs.bridges.Worths.{Offer, offer_at, offers_of, beats_with, beaten_with}
 use Rattle.ladder.proofs.Ranges.{some_agree}
 use Rattle.ladder.proofs.Tabulating.{length_tabulate, tabulate_at}
@@ -20,10 +20,6 @@ take_tabulate : {A : Type 0} (m n i : ℕ) (f : ℕ → A) → m ≤ n → take 
 take_tabulate zero n i f h = refl
 take_tabulate (suc m) zero i f h = absurd (not-suc-le-zero h)
 take_tabulate (suc m) (suc n) i f h = rw (take_tabulate m n (suc i) f (le_of_suc-le-suc h)) refl
-
-map_tabulate : {A B : Type 0} (g : A → B) (n i : ℕ) (f : ℕ → A) → map g (tabulate n i f) ≡ tabulate n i (λ k. g (f k))
-map_tabulate g zero i f = refl
-map_tabulate g (suc n) i f = rw (map_tabulate g n (suc i) f) refl
 
 and_assoc : (a b c : Bool) → (a && (b && c)) ≡ (a && b && c)
 and_assoc true b c = refl
@@ -35,11 +31,6 @@ any_tabulate p f zero i = refl
 any_tabulate p f (suc n) i = rw (add-one i, any_tabulate p f n (suc i)) refl
 
 module _ (thresholds : List Float) (payloads : List ℕ) (times : List Float) where
-  -- the worths of the offers
-  pub offers_worths : map (λ (o : Offer). o.worth) (offers_of thresholds payloads times) ≡ worths_of payloads times
-  unfolding offers_of worths_of
-  offers_worths = map_tabulate (λ (o : Offer). o.worth) 32 0 (offer_at thresholds payloads times)
-
   pub beats_by_worths : (r o : ℕ) → (not (eqb o r) && beats_with (offer_at thresholds payloads times o) (offer_at thresholds payloads times r)) ≡ beats thresholds payloads times r o
   beats_by_worths r o =
       and_assoc (not (eqb o r)) (le (worth_at payloads times r) (worth_at payloads times o)) (le (get_or thresholds o f0) (get_or thresholds r f0))

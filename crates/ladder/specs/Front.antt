@@ -6,7 +6,7 @@ use Rattle.limits.specs.Values.{ok_db, ok_air, ok_bytes}
 use Rattle.limits.specs.Refusals.{Verdict, unless, or_else}
 use Rattle.limits.specs.declared.refusal.Refusal.{Refusal}
 use Rattle.limits.specs.declared.refusal.Refusal.TheVariants.{ColumnSize, ColumnsDiffer, TableValue}
-use Rattle.ladder.specs.Lists.{every, tabulate, select, some_from, filled}
+use Rattle.ladder.specs.Lists.{every, select, some_from, filled}
 use Rattle.ladder.specs.Types.{Rung, Front, rung}
 use Rattle.ladder.specs.Columns.{ok_size}
 
@@ -29,10 +29,6 @@ worth payload time = of_nat (data_of payload) ⊘ time
 -- of the rung r
 abbrev pub worth_at : List ℕ → List Float → ℕ → Float
 worth_at payloads times r = worth (get_or payloads r 0) (get_or times r f1)
-
--- of each rung, as an array of 32; past the last rung it is 0/1
-unfoldable pub worths_of : List ℕ → List Float → List Float
-worths_of payloads times = tabulate 32 0 (worth_at payloads times)
 
 -- "another has worth at least as great and threshold at most as high": o is another than r, and has
 abbrev pub beats : List Float → List ℕ → List Float → ℕ → ℕ → Bool

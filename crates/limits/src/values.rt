@@ -56,7 +56,7 @@ pub fn ok_burst(n: u32) -> bool
 }
 
 // An echo share or an echo limit.
-pub fn ok_share(x: f64) -> bool
+pub(crate) fn ok_share(x: f64) -> bool
     ensures { result ≡ ok_share x }
 {
     is_within(0.0, 1.0, x)

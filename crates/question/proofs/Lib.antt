@@ -6,5 +6,4 @@ mod Numbers
 pub mod Pairs
 pub mod Events
 pub mod Held
-pub mod Readers
 mod Starting

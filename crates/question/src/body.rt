@@ -13,7 +13,7 @@ use std::array;
 
 // How many frames a body of frames has. (`burst_count` differs in two numbers: a function that takes them would be called by these two alone, and say less
 // than the one line of each. So do `frame_at` and `burst_at`, `frames_of` and `bursts_of`, `ok_flags` and `ok_bursts`: what they share is std's walk.)
-pub fn frame_count(body: &[u8]) -> usize
+pub(crate) fn frame_count(body: &[u8]) -> usize
     ensures { result ≡ frame_count body.now }
 {
     body.len().saturating_sub(10) / 12
@@ -85,7 +85,7 @@ fn seed_form(body: &[u8]) -> bool
 
 // Whether a body has its kind's form.
 #[tactic(auto, unfolding(crate::specs::Body::ok_body))]
-pub fn ok_body(body: &[u8]) -> bool
+pub(crate) fn ok_body(body: &[u8]) -> bool
     ensures { result ≡ ok_body body.now }
 {
     match Kind::try_from(byte_at(body, 0)) {
@@ -103,7 +103,7 @@ pub fn ok_body(body: &[u8]) -> bool
 // The frame that stands at the start of the bytes. A function and no `From`: it reads the start of a longer slice, and a byte past the end as 0, which
 // `Frame::from(bytes)` would not say.
 #[tactic(auto, unfolding(crate::specs::Body::frame_of))]
-pub fn frame_of(bytes: &[u8]) -> Frame
+fn frame_of(bytes: &[u8]) -> Frame
     ensures { result ≡ frame_of bytes.now }
 {
     let flags = byte_at(bytes, 1);

@@ -40,7 +40,7 @@ fn first<const N: usize>(bytes: &[u8]) -> [u8; N]
 
 // Two bytes as a number.
 #[tactic(auto, using(crate::proofs::Numbers::le16_first))]
-pub fn u16_of(bytes: &[u8]) -> u16
+pub(crate) fn u16_of(bytes: &[u8]) -> u16
     ensures { result ≡ le16 bytes.now }
 {
     u16::from_le_bytes(first(bytes))
@@ -56,7 +56,7 @@ pub fn u32_of(bytes: &[u8]) -> u32
 
 // Eight bytes.
 #[tactic(auto, using(crate::proofs::Numbers::le64_first))]
-pub fn u64_of(bytes: &[u8]) -> u64
+fn u64_of(bytes: &[u8]) -> u64
     ensures { result ≡ le64 bytes.now }
 {
     u64::from_le_bytes(first(bytes))
@@ -72,7 +72,7 @@ pub fn f64_of(bytes: &[u8]) -> f64
 
 // Whether the first nine bytes have a reading's form.
 #[tactic(auto, unfolding(crate::specs::Bytes::ok_reading))]
-pub fn ok_reading(bytes: &[u8]) -> bool
+pub(crate) fn ok_reading(bytes: &[u8]) -> bool
     ensures { result ≡ ok_reading bytes.now }
 {
     match byte_at(bytes, 0) {

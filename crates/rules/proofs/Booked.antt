@@ -24,7 +24,7 @@ use Rattle.account.specs.declared.types.State.{State}
 use Rattle.account.specs.State.{Trying, choice, try_of}
 use Rattle.rules.specs.Lists.{some_of, how_many}
 use Rattle.rules.specs.Echo.{observe_snr}
-use Rattle.rules.specs.Booking.{Frame, at, book, call_air, offsets_at, offsets_after, ofdm, judge_family, airs, sent, clean_mark, booked}
+use Rattle.rules.specs.Booking.{Frame, at, call_air, offsets_at, offsets_after, ofdm, judge_family, airs, sent, clean_mark, booked}
 use Rattle.rules.specs.Tries.{judge_above, own_frames, end_probe, counted, decide}
 use Rattle.rules.specs.bridges.Sets.{in_set}
 use Rattle.rules.specs.bridges.Pass.{Pass, Marks, add_rung, offsets_by, mark_family, mark_choice, family_mark, choice_mark, count_own, begin_pass, here_of, pass_step, pass_all, booked_accounts, finish_pass, judged_pass, decided_pass}
@@ -156,9 +156,6 @@ gathers t c y (f ∷ fs) = gathers t c (pass_step t c y f) fs ∙ gathered_step 
 module _ (t : Table) (s : State) (fs : List Frame) where
   abbrev gather : Pass
   gather = pass_all t s.core (begin_pass s.core) fs
-
-  pub accounts_booked : (booked_accounts t fs s).accounts ≡ book t fs s.accounts
-  accounts_booked = refl
 
   pub offsets_moved : gather.offsets ≡ offsets_after t s fs
   unfolding offsets_after

@@ -1,5 +1,0 @@
-pub mod Calls
-pub mod Fold
-pub mod Lent
-pub mod LentAround
-pub mod TwoPasses
