@@ -19,6 +19,7 @@ use Rattle.ladder.specs.Types.{row, rung_count}
 use Rattle.std.proofs.lemmas.Bool.{cond_both}
 use Rattle.std.proofs.lemmas.Float.{T_from_true}
 use Rattle.ladder.proofs.TableSound.{TableSound}
+use Rattle.account.specs.Fixed.{longest_wait}
 use Rattle.account.specs.State.{Tariff, State, wait_of}
 use Rattle.account.specs.Price.{burst_or, full_air, wait_s}
 
@@ -91,17 +92,17 @@ module _ (t : Table) (p : Option Tariff) (ts : TableSound t) (ps : TariffSound p
 -- ---- waits
 -- no wait is longer than 48
 abbrev pub IsWait : ℕ → Type 0
-IsWait w = w ≤ 48
+IsWait w = w ≤ longest_wait
 
-longest_finite : T (finite (of_nat 48))
+longest_finite : T (finite (of_nat longest_wait))
 unfolding of_int round
 longest_finite = tt
 
 -- as f64 it is finite, at least 0 and at most 48
-pub wait_fits : (w : ℕ) → IsWait w → T (finite (of_nat w)) × natural (of_nat w) × T (le (of_nat w) (of_nat 48))
+pub wait_fits : (w : ℕ) → IsWait w → T (finite (of_nat w)) × natural (of_nat w) × T (le (of_nat w) (of_nat longest_wait))
 wait_fits w h =
-    let k = of_mono w 48 h in
-    (between_limits zero64 (of_nat w) (of_nat 48) tt longest_finite (of_natural w) k, of_natural w, k)
+    let k = of_mono w longest_wait h in
+    (between_limits zero64 (of_nat w) (of_nat longest_wait) tt longest_finite (of_natural w) k, of_natural w, k)
 
 pub seconds_natural : (t : Table) (p : Option Tariff) (s : State) (r : ℕ) → TableSound t → TariffSound p → r < rung_count t → IsWait (wait_of s r) → natural (wait_s t p s r)
 unfolding wait_s

@@ -29,14 +29,14 @@ abbrev pub echo_floor : Float
 echo_floor = f64 0xc018_0000_0000_0000
 
 -- ---- "SNR smooths 0.7 old + 0.3 new; echo 0.6 old + 0.4 new": the new echo's part is the echo weight
-abbrev pub snr_kept : Float
-snr_kept = f64 0x3fe6_6666_6666_6666
+abbrev pub snr_old : Float
+snr_old = f64 0x3fe6_6666_6666_6666
 
-abbrev pub snr_weight : Float
-snr_weight = f64 0x3fd3_3333_3333_3333
+abbrev pub snr_new : Float
+snr_new = f64 0x3fd3_3333_3333_3333
 
-abbrev pub echo_kept : Float
-echo_kept = f64 0x3fe3_3333_3333_3333
+abbrev pub echo_old : Float
+echo_old = f64 0x3fe3_3333_3333_3333
 
 -- ---- "clamped to -5..20", in dB
 abbrev pub least_offset : Float

@@ -22,11 +22,11 @@ pub const ECHO_WEIGHT: f64 = 0.4;
 pub const ECHO_MIN_SNR_DB: f64 = -6.0;
 
 // ---- "SNR smooths 0.7 old + 0.3 new; echo 0.6 old + 0.4 new"
-pub const SNR_KEPT: f64 = 0.7;
+pub const SNR_OLD: f64 = 0.7;
 
-pub const SNR_WEIGHT: f64 = 0.3;
+pub const SNR_NEW: f64 = 0.3;
 
-pub const ECHO_KEPT: f64 = 0.6;
+pub const ECHO_OLD: f64 = 0.6;
 
 // ---- "clamped to -5..20": the ends of an offset, in dB
 pub const LEAST_OFFSET_DB: f64 = -5.0;

@@ -1,12 +1,12 @@
 -- Times since a try are at least 0 and waits are at most 48, for 32 rungs: a transmission keeps both, and no other step touches either. Assumes nothing.
 use mathlib.Core.Path.{◌≡◌, refl, sym, ◌∙◌, subst}
-use mathlib.Core.Bool.{◌&&◌, ◌||◌, not}
-use mathlib.Core.List.{List, [], ◌∷◌}
-use Prim.Native.Nat.{ℕ, zero, suc, ◌+◌, ◌*◌, ◌<◌, min}
+use mathlib.Core.Bool.{not}
+use mathlib.Core.List.{List}
+use Prim.Native.Nat.{ℕ, zero, suc, ◌<◌}
 use native.Mathlib.Omega.{arith}
-use lib.Dec.{leb, ltb, eqb, ltb→lt}
+use lib.Dec.{T, ltb, ltb→lt}
 use lib.ListN.{length, get_or, set, length-set}
-use lib.Ieee.{Float, binary64, of_bits, le, lt}
+use lib.Ieee.{Float, binary64, of_bits, le}
 use lib.Ieee.Fits.{and_l}
 use Rattle.float.specs.Numbers.{◌⊕◌, f0}
 use Rattle.float.proofs.Monotone.{natural, add_natural}
@@ -14,22 +14,18 @@ use Rattle.limits.specs.Readings.{Reading}
 use Rattle.std.specs.Prelude.{None, Some}
 use Rattle.ladder.specs.declared.types.Table.{Table}
 use Rattle.ladder.specs.Types.{rung_at, rung_count, place_count}
-use Rattle.std.proofs.lemmas.Bool.{cond_both}
-use Rattle.std.proofs.lemmas.Float.{T_from_true}
-use Rattle.ladder.proofs.Cases.{pick}
 use Rattle.ladder.proofs.Entries.{All, all_get, all_set}
 use Rattle.ladder.proofs.TableSound.{TableSound}
-use Rattle.account.specs.Fixed.{echo_floor}
-use Rattle.account.specs.State.{Trying, since_of, wait_of, choice, with_since, with_wait, with_trying, with_place, with_echo}
+use Rattle.account.specs.Fixed.{first_wait}
+use Rattle.account.specs.State.{since_of, wait_of, with_since, with_wait}
 use Rattle.account.specs.declared.types.Prices.{Prices}
 use Rattle.account.specs.declared.types.State.{State}
 use Rattle.account.specs.Price.{wait_s}
 use Rattle.account.proofs.FullAir.{TariffSound, IsWait, seconds_natural}
-use Rattle.rules.specs.Lowest.{Best}
-use Rattle.rules.specs.Echo.{echo_out, usable, end_if_out, echoed, smooth_echo, observe_echo, seed, seed_at, observe_snr}
+use Rattle.rules.specs.Echo.{echo_out, usable, observe_echo, seed, observe_snr}
 use Rattle.rules.specs.Booking.{Frame, call_air, passed, booked}
-use Rattle.rules.specs.Tries.{better, judge_try, to_judge, judge_if_sent, judge_above, place_from, full_wait, won, end_probe, own_frames, counted, Decided, begins, above, decide_try, decide_at, decide, choose}
-use Rattle.rules.specs.Transmission.{judged, inside, observe_frames}
+use Rattle.rules.specs.Transmission.{inside, observe_frames}
+use Rattle.rules.proofs.Kept.{KeptByMoves, KeptBySteps, echo_kept, seed_kept, inside_kept, frames_kept}
 
 -- over the two lists, so that a step on any other field keeps it as it stands
 pub record Clock (since : List Float) (wait : List ℕ) : Type 0 where
@@ -45,14 +41,14 @@ pub time_natural : (s : State) → Ticks s → (r : ℕ) → r < 32 → natural 
 time_natural s h r k = all_get natural s.since r f0 h.naturals (subst (λ (n : ℕ). r < n) (sym h.since_32) k)
 
 pub wait_is : (s : State) → Ticks s → (r : ℕ) → r < 32 → IsWait (wait_of s r)
-wait_is s h r k = all_get IsWait s.wait r 6 h.waits (subst (λ (n : ℕ). r < n) (sym h.wait_32) k)
+wait_is s h r k = all_get IsWait s.wait r first_wait h.waits (subst (λ (n : ℕ). r < n) (sym h.wait_32) k)
 
 pub zero_natural : natural f0
 unfolding of_bits le
 zero_natural = tt
 
-set_time : (s : State) (r : ℕ) (x : Float) → Ticks s → natural x → Ticks (with_since s r x)
-set_time s r x h n = record {
+set_since : (s : State) (r : ℕ) (x : Float) → Ticks s → natural x → Ticks (with_since s r x)
+set_since s r x h n = record {
   since_32 = length-set s.since r x ∙ h.since_32;
   wait_32 = h.wait_32;
   naturals = all_set natural s.since r x h.naturals (λ g. n);
@@ -66,22 +62,6 @@ set_wait s r w h n = record {
   naturals = h.naturals;
   waits = all_set IsWait s.wait r w h.waits (λ g. n);
 }
-
--- ---- the steps of a transmission
-judge_ticks : (t : Table) (p : Prices) (s : State) (r : ℕ) → Ticks s → Ticks (judge_try t p s r)
-unfolding judge_try
-judge_ticks t p s r h =
-    let w = min 48 (2 * wait_of s r) in
-    pick Ticks (better t p s r) (set_wait s r 6 h (omega arith)) (set_time (with_wait s r w) r f0 (set_wait s r w h (omega arith)) zero_natural)
-
-sent_ticks : (t : Table) (p : Prices) (fs : List Frame) (s : State) (r : ℕ) → Ticks s → Ticks (judge_if_sent t p fs s r)
-unfolding judge_if_sent
-sent_ticks t p fs s r h = pick Ticks (to_judge t s fs r) (judge_ticks t p s r h) h
-
-above_ticks : (n r : ℕ) (t : Table) (p : Prices) (fs : List Frame) (s : State) → Ticks s → Ticks (judge_above n r t p fs s)
-unfolding judge_above
-above_ticks zero r t p fs s h = h
-above_ticks (suc n) r t p fs s h = above_ticks n (suc r) t p fs (judge_if_sent t p fs s r) (sent_ticks t p fs s r h)
 
 passed_length : (n i : ℕ) (t : Table) (a : Float) (since : List Float) → length (passed n i t a since) ≡ length since
 unfolding passed
@@ -107,77 +87,41 @@ booked_ticks t s fs n h = record {
   waits = h.waits;
 }
 
+-- ---- a transmission
 module _ (t : Table) (p : Prices) (ts : TableSound t) (ps : TariffSound p.tariff) where
-  full_ticks : (s : State) → Ticks s → Ticks (full_wait t p s)
-  unfolding full_wait
-  full_ticks s h =
+  -- the full wait of a rung in the table, which one on the front is
+  full_ticks : (s : State) → T (usable t s (suc s.core.place.0)) → Ticks s → let r = rung_at t (suc s.core.place.0) in Ticks (with_since s r (wait_s t p.tariff s r))
+  full_ticks s u h =
       let up = suc s.core.place.0 in
       let r = rung_at t up in
-      cond_both (usable t s up) _ _ Ticks
-      (λ e.
-      let there : r < rung_count t = ts.on_table up (ltb→lt up (place_count t) (and_l (ltb up (place_count t)) (not (echo_out t s r)) (T_from_true _ e))) in
-      set_time s r (wait_s t p.tariff s r) h (seconds_natural t p.tariff s r ts ps there (wait_is s h r (omega arith))))
-      (λ e. h)
+      let there : r < rung_count t = ts.on_table up (ltb→lt up (place_count t) (and_l (ltb up (place_count t)) (not (echo_out t s r)) u)) in
+      set_since s r (wait_s t p.tariff s r) h (seconds_natural t p.tariff s r ts ps there (wait_is s h r (omega arith)))
 
-  won_ticks : (s : State) (r : ℕ) → Ticks s → Ticks (won t p s r)
-  unfolding won
-  won_ticks s r h = full_ticks (with_place s (place_from (place_count t) 0 t r s.core.place.0)) h
-
-  end_ticks : (s : State) (r frames : ℕ) → Ticks s → Ticks (end_probe t p s r frames)
-  unfolding end_probe
-  end_ticks s r frames h =
-      let j = judge_ticks t p s r h in
-      pick Ticks (eqb frames 0) h (pick Ticks (better t p s r) (won_ticks (judge_try t p s r) r j) j)
-
-  counted_ticks : (n : ℕ) (s : State) (y : Trying) → Ticks s → Ticks (counted t p n s y)
-  unfolding counted
-  counted_ticks n s None h = h
-  counted_ticks n s (Some y) h =
-      pick Ticks (leb 3 (y.frames + n) || leb 6 (suc y.calls)) (end_ticks (with_trying s None) y.rung.0 (y.frames + n) h) h
+  ticks_kept : KeptBySteps t p Ticks
+  ticks_kept = record {
+    moves = record { place = λ s i h. h; trying = λ s y h. h };
+    wait = λ s r w k h. set_wait s r w h k;
+    zeroed = λ s r h. set_since s r f0 h zero_natural;
+    full = full_ticks;
+  }
 
   pub inside_ticks : (s : State) (fs : List Frame) (snr : Reading) → natural (call_air fs) → Ticks s → Ticks (inside t p s fs snr)
-  unfolding inside
-  inside_ticks s fs snr n h =
-      let b = judged t p (observe_snr s snr) fs in
-      counted_ticks (own_frames fs b.core.trying) b b.core.trying (above_ticks 32 0 t p fs (booked t (observe_snr s snr) fs) (booked_ticks t (observe_snr s snr) fs n h))
-
-  decide_ticks : (s : State) → Ticks s → Ticks (decide t p s).state
-  unfolding decide
-  decide_ticks s h = go (choose t p s)
-    where
-      decided : (m : State) (y : Trying) → Ticks m → Ticks (decide_try t p m y).state
-      decided m None k = pick (λ (d : Decided). Ticks d.state) (begins t p m) (set_time m (above t m) f0 k zero_natural) k
-      decided m (Some y) k = pick Ticks (usable t m (suc m.core.place.0) && eqb (above t m) y.rung.0) k k
-
-      go : (b : Best) → Ticks (decide_at t p s b).state
-      go None = h
-      go (Some b) = decided (with_place s b.place.0) s.core.trying h
+  inside_ticks s fs snr n h = inside_kept t p Ticks ticks_kept s fs snr (booked_ticks t (observe_snr s snr) fs n h)
 
   pub frames_ticks : (s : State) (fs : List Frame) (snr : Reading) → natural (call_air fs) → Ticks s → Ticks (observe_frames t p s fs snr).state
-  unfolding observe_frames
-  frames_ticks s [] snr n h = h
-  frames_ticks s (f ∷ fs) snr n h = decide_ticks (inside t p s (f ∷ fs) snr) (inside_ticks s (f ∷ fs) snr n h)
+  frames_ticks s fs snr n h = frames_kept t p Ticks ticks_kept s fs snr h (booked_ticks t (observe_snr s snr) fs n h)
 
 -- ---- the other steps leave the two lists
 abbrev pub Untimed : State → State → Type 0
 Untimed s z = (z.since ≡ s.since) × (z.wait ≡ s.wait)
 
+untimed_kept : (s : State) → KeptByMoves (Untimed s)
+untimed_kept s = record { place = λ z i h. h; trying = λ z y h. h }
+
 pub echo_untimed : (t : Table) (p : Prices) (s : State) (share : Reading) (snr : Float) → Untimed s (observe_echo t p s share snr)
 unfolding observe_echo
 echo_untimed t p s None snr = (refl, refl)
-echo_untimed t p s (Some x) snr = pick (Untimed s) (lt snr echo_floor) (refl, refl) (heard (with_echo s (smooth_echo s.core.echo x)) (refl, refl))
-  where
-    off : (m : State) (y : Trying) → Untimed s m → Untimed s (end_if_out t m y)
-    off m None h = h
-    off m (Some y) h = pick (Untimed s) (echo_out t m y.rung.0) h h
-
-    heard : (m : State) → Untimed s m → Untimed s (echoed t p m)
-    heard m h = let z = end_if_out t m m.core.trying in let k = off m m.core.trying h in pick (Untimed s) (echo_out t z (choice t z)) k k
+echo_untimed t p s (Some x) snr = echo_kept t p (Untimed s) (untimed_kept s) s x snr (refl, refl) (refl, refl)
 
 pub seed_untimed : (t : Table) (p : Prices) (s : State) (snr : Float) → Untimed s (seed t p s snr)
-unfolding seed
-seed_untimed t p s snr = go s.core.snr
-  where
-    go : (x : Reading) → Untimed s (seed_at t p s snr x)
-    go None = (refl, refl)
-    go (Some y) = (refl, refl)
+seed_untimed t p s snr = seed_kept t p (Untimed s) (untimed_kept s) s snr (refl, refl) (refl, refl)

@@ -9,4 +9,5 @@ pub mod Calm
 pub mod Fade
 pub mod Ageing
 pub mod Keeping
+pub mod Kept
 pub mod Booked

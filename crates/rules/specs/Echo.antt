@@ -6,7 +6,7 @@ use Rattle.limits.specs.Readings.{Reading}
 use Rattle.ladder.specs.declared.types.Table.{Table}
 use Rattle.ladder.specs.Lists.{some_from}
 use Rattle.ladder.specs.Types.{row, rung_at, place_count, is_floor}
-use Rattle.account.specs.Fixed.{snr_kept, snr_weight, echo_kept, echo_weight, echo_floor}
+use Rattle.account.specs.Fixed.{snr_old, snr_new, echo_old, echo_weight, echo_floor}
 use Rattle.account.specs.State.{Trying, choice, cancel_try, with_snr, with_echo, with_place}
 use Rattle.account.specs.declared.types.Prices.{Prices}
 use Rattle.account.specs.declared.types.State.{State}
@@ -21,11 +21,11 @@ smooth old new (Some before) x = Some (old ⊗ before ⊕ new ⊗ x)
 -- "SNR smooths 0.7 old + 0.3 new"; a missing reading is no news
 abbrev pub smooth_snr : Reading → Reading → Reading
 smooth_snr before None = before
-smooth_snr before (Some x) = smooth snr_kept snr_weight before x
+smooth_snr before (Some x) = smooth snr_old snr_new before x
 
 -- "echo 0.6 old + 0.4 new"
 abbrev pub smooth_echo : Reading → Float → Reading
-smooth_echo before x = smooth echo_kept echo_weight before x
+smooth_echo before x = smooth echo_old echo_weight before x
 
 -- "A rung is out only when echo > its limit"
 abbrev pub over_limit : Reading → Reading → Bool

@@ -2,7 +2,7 @@
 ghost use Rattle.std.specs.Prelude.{◌≡◌, Some};
 ghost use Rattle.rules.specs.Echo.{smooth, smooth_snr, smooth_echo, over_limit};
 
-use account::fixed::{ECHO_KEPT, ECHO_WEIGHT, SNR_KEPT, SNR_WEIGHT};
+use account::fixed::{ECHO_OLD, ECHO_WEIGHT, SNR_OLD, SNR_NEW};
 use limits::reading::Reading;
 
 // What was smoothed before and a new value, by their weights; the first value as it is.
@@ -16,14 +16,14 @@ fn smooth(old: f64, new: f64, before: Reading, x: f64) -> f64
 pub fn smooth_snr(before: Reading, snr: Reading) -> Reading
     ensures { result ≡ smooth_snr before snr }
 {
-    snr.map_or(before, |x| Some(smooth(SNR_KEPT, SNR_WEIGHT, before, x)))
+    snr.map_or(before, |x| Some(smooth(SNR_OLD, SNR_NEW, before, x)))
 }
 
 // The smoothed echo after a share.
 pub fn smooth_echo(before: Reading, x: f64) -> Reading
     ensures { result ≡ smooth_echo before x }
 {
-    Some(smooth(ECHO_KEPT, ECHO_WEIGHT, before, x))
+    Some(smooth(ECHO_OLD, ECHO_WEIGHT, before, x))
 }
 
 // Whether an echo is over a limit.
