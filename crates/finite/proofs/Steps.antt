@@ -22,7 +22,7 @@ use Rattle.rules.specs.Tries.{judge_above}
 use Rattle.rules.specs.Echo.{smooth_snr, smooth_echo, observe_echo, seed, observe_snr}
 use Rattle.rules.specs.Booking.{booked}
 use Rattle.rules.specs.Transmission.{inside, observe_frames}
-use Rattle.rules.proofs.Kept.{KeptByMoves, KeptBySteps, echo_kept, seed_kept, above_kept, inside_kept, frames_kept}
+use Rattle.rules.proofs.Kept.{KeptByEcho, KeptByJudging, KeptBySteps, echo_kept, seed_kept, above_kept, inside_kept, frames_kept}
 use Rattle.finite.proofs.Ranges.{Range, ◌to◌, In, ◌⊠◌, scaled, sums, products, scales, sum_in, product_in, scaled_in, counts}
 use Rattle.finite.proofs.Bounds.{decibels, air_times, shares, times, TableIn, TariffIn, tariff_sound, Held, all_any}
 use Rattle.finite.proofs.Booking.{FrameIn, zero_time, booked_in}
@@ -66,16 +66,19 @@ set_wait s r w h k = record { accounts = h.accounts; since = h.since; wait = all
 pub snr_held : (s : State) (x : Reading) → T (ok_snr x) → Held s → Held (observe_snr s x)
 snr_held s x k h = set_snr s (smooth_snr s.core.snr x) h (snr_in s.core.snr x h.snr k)
 
-held_moves : KeptByMoves Held
-held_moves = record { place = λ s i h. h; trying = λ s y h. h }
+held_echo : KeptByEcho Held
+held_echo = record { place = λ s i h. h; cancelled = λ s h. h }
 
 pub echo_held : (t : Table) (p : Prices) (s : State) (x snr : Float) → T (ok_share x) → Held s → Held (observe_echo t p s (Some x) snr)
-echo_held t p s x snr k h = echo_kept t p Held held_moves s x snr h (set_echo s (smooth_echo s.core.echo x) h (echo_in s.core.echo x h.echo k))
+echo_held t p s x snr k h = echo_kept t p Held held_echo s x snr h (set_echo s (smooth_echo s.core.echo x) h (echo_in s.core.echo x h.echo k))
 
 pub seed_held : (t : Table) (p : Prices) (s : State) (snr : Float) → T (ok_db snr) → Held s → Held (seed t p s snr)
-seed_held t p s snr k h = seed_kept t p Held held_moves s snr h (set_snr s (Some snr) h k)
+seed_held t p s snr k h = seed_kept t p Held held_echo s snr h (set_snr s (Some snr) h k)
 
 -- ---- a transmission
+held_judging : KeptByJudging Held
+held_judging = record { wait = λ s r w k h. set_wait s r w h k; zeroed = λ s r h. set_since s r f0 h zero_time }
+
 -- a full wait: up to 48 transmissions of up to 1,000 frames
 abbrev full_airs : Range
 full_airs = (of_nat 0 to of_nat 1000) ⊠ air_times
@@ -97,10 +100,12 @@ module _ (t : Table) (p : Prices) (ts : TableIn t) (ps : TariffIn p.tariff) wher
 
   held_steps : KeptBySteps t p Held
   held_steps = record {
-    moves = held_moves;
-    wait = λ s r w k h. set_wait s r w h k;
-    zeroed = λ s r h. set_since s r f0 h zero_time;
-    full = λ s u h. let r = rung_at t (suc s.core.place.0) in set_since s r (wait_s t p.tariff s r) h (wait_in s r h);
+    ending = record {
+      judging = held_judging;
+      place = λ s i h. h;
+      full = λ s u h. let r = rung_at t (suc s.core.place.0) in set_since s r (wait_s t p.tariff s r) h (wait_in s r h);
+    };
+    trying = λ s y h. h;
   }
 
   module _ (s : State) (fs : List Frame) (snr : Reading) (k : All FrameIn fs) (x : T (ok_snr snr)) (h : Held s) where
@@ -108,7 +113,7 @@ module _ (t : Table) (p : Prices) (ts : TableIn t) (ps : TariffIn p.tariff) wher
     booked_held = booked_in t ts (observe_snr s snr) fs k (snr_held s snr x h)
 
     pub judging_held : (n : ℕ) → Held (judge_above n 0 t p fs (booked t (observe_snr s snr) fs))
-    judging_held n = above_kept t p Held held_steps n 0 fs (booked t (observe_snr s snr) fs) booked_held
+    judging_held n = above_kept t p Held held_judging n 0 fs (booked t (observe_snr s snr) fs) booked_held
 
     pub inside_held : Held (inside t p s fs snr)
     inside_held = inside_kept t p Held held_steps s fs snr booked_held

@@ -25,7 +25,7 @@ use Rattle.account.proofs.FullAir.{TariffSound, IsWait, seconds_natural}
 use Rattle.rules.specs.Echo.{echo_out, usable, observe_echo, seed, observe_snr}
 use Rattle.rules.specs.Booking.{Frame, call_air, passed, booked}
 use Rattle.rules.specs.Transmission.{inside, observe_frames}
-use Rattle.rules.proofs.Kept.{KeptByMoves, KeptBySteps, echo_kept, seed_kept, inside_kept, frames_kept}
+use Rattle.rules.proofs.Kept.{KeptByEcho, KeptBySteps, echo_kept, seed_kept, inside_kept, frames_kept}
 
 -- over the two lists, so that a step on any other field keeps it as it stands
 pub record Clock (since : List Float) (wait : List ℕ) : Type 0 where
@@ -99,10 +99,12 @@ module _ (t : Table) (p : Prices) (ts : TableSound t) (ps : TariffSound p.tariff
 
   ticks_kept : KeptBySteps t p Ticks
   ticks_kept = record {
-    moves = record { place = λ s i h. h; trying = λ s y h. h };
-    wait = λ s r w k h. set_wait s r w h k;
-    zeroed = λ s r h. set_since s r f0 h zero_natural;
-    full = full_ticks;
+    ending = record {
+      judging = record { wait = λ s r w k h. set_wait s r w h k; zeroed = λ s r h. set_since s r f0 h zero_natural };
+      place = λ s i h. h;
+      full = full_ticks;
+    };
+    trying = λ s y h. h;
   }
 
   pub inside_ticks : (s : State) (fs : List Frame) (snr : Reading) → natural (call_air fs) → Ticks s → Ticks (inside t p s fs snr)
@@ -115,8 +117,8 @@ module _ (t : Table) (p : Prices) (ts : TableSound t) (ps : TariffSound p.tariff
 abbrev pub Untimed : State → State → Type 0
 Untimed s z = (z.since ≡ s.since) × (z.wait ≡ s.wait)
 
-untimed_kept : (s : State) → KeptByMoves (Untimed s)
-untimed_kept s = record { place = λ z i h. h; trying = λ z y h. h }
+untimed_kept : (s : State) → KeptByEcho (Untimed s)
+untimed_kept s = record { place = λ z i h. h; cancelled = λ z h. h }
 
 pub echo_untimed : (t : Table) (p : Prices) (s : State) (share : Reading) (snr : Float) → Untimed s (observe_echo t p s share snr)
 unfolding observe_echo

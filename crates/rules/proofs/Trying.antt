@@ -4,60 +4,44 @@ use mathlib.Core.Path.{◌≡◌, refl, sym, ◌∙◌, subst}
 use mathlib.Core.Bool.{Bool, true, false, not, ◌&&◌, ◌||◌, cond}
 use mathlib.Core.List.{List}
 use mathlib.Core.Logic.{◌⊎◌, inl, inr}
-use Prim.Native.Nat.{ℕ, zero, suc, ◌+◌, ◌<◌}
+use Prim.Native.Nat.{ℕ, suc, ◌+◌, ◌<◌}
 use native.Mathlib.Omega.{arith}
 use borrow.Author.Tests.{leb-false}
 use lib.Dec.{T, leb, eqb}
-use lib.Ieee.{Float, lt}
+use lib.Ieee.{Float}
 use Rattle.ladder.specs.declared.types.Rung.{Rung}
 use Rattle.limits.specs.Readings.{Reading}
 use Rattle.std.specs.Prelude.{None, Some}
 use Rattle.ladder.specs.declared.types.Table.{Table}
-use Rattle.ladder.specs.Types.{rung, place_count}
+use Rattle.ladder.specs.Types.{rung}
 use Rattle.std.proofs.lemmas.Bool.{cond_both, or_parts}
 use Rattle.ladder.proofs.Cases.{pick}
-use Rattle.account.specs.Fixed.{echo_floor}
-use Rattle.account.specs.State.{Trying, try_of, runs, choice, with_trying, with_place, with_echo}
+use Rattle.account.specs.State.{Trying, try_of, runs, with_trying, with_place}
 use Rattle.account.specs.declared.types.Prices.{Prices}
 use Rattle.account.specs.declared.types.State.{State}
 use Rattle.rules.specs.Lowest.{Best}
-use Rattle.rules.specs.Echo.{echo_out, usable, end_if_out, down_if_out, echoed, smooth_echo, observe_echo, seed, seed_at, observe_snr}
+use Rattle.rules.specs.Echo.{usable, observe_echo, seed, seed_at, observe_snr}
 use Rattle.rules.specs.Booking.{Frame, booked}
-use Rattle.rules.specs.Tries.{Decided, better, judge_try, to_judge, judge_if_sent, judge_above, place_from, full_wait, won, end_probe, own_frames, counted, begins, above, decide_try, decide_at, decide, choose}
+use Rattle.rules.specs.Tries.{Decided, end_probe, own_frames, counted, begins, above, decide_try, decide_at, decide, choose}
 use Rattle.rules.specs.Transmission.{judged, inside}
+use Rattle.rules.proofs.Kept.{KeptByJudging, KeptByEnding, echo_kept, above_kept, end_kept}
 
 -- ---- what leaves the try as it was
-judge_keeps_try : (t : Table) (p : Prices) (s : State) (r : ℕ) → (judge_try t p s r).core.trying ≡ s.core.trying
-unfolding judge_try
-judge_keeps_try t p s r = pick (λ (z : State). z.core.trying ≡ s.core.trying) (better t p s r) refl refl
+abbrev Same : Trying → State → Type 0
+Same y z = z.core.trying ≡ y
 
-sent_keeps_try : (t : Table) (p : Prices) (fs : List Frame) (s : State) (r : ℕ) → (judge_if_sent t p fs s r).core.trying ≡ s.core.trying
-unfolding judge_if_sent
-sent_keeps_try t p fs s r = pick (λ (z : State). z.core.trying ≡ s.core.trying) (to_judge t s fs r) (judge_keeps_try t p s r) refl
+judging_keeps : (y : Trying) → KeptByJudging (Same y)
+judging_keeps y = record { wait = λ z r w k h. h; zeroed = λ z r h. h }
 
-above_keeps_try : (n r : ℕ) (t : Table) (p : Prices) (fs : List Frame) (s : State) → (judge_above n r t p fs s).core.trying ≡ s.core.trying
-unfolding judge_above
-above_keeps_try zero r t p fs s = refl
-above_keeps_try (suc n) r t p fs s = above_keeps_try n (suc r) t p fs (judge_if_sent t p fs s r) ∙ sent_keeps_try t p fs s r
+ending_keeps : (t : Table) (p : Prices) (y : Trying) → KeptByEnding t p (Same y)
+ending_keeps t p y = record { judging = judging_keeps y; place = λ z i h. h; full = λ z u h. h }
 
 pub judged_keeps_try : (t : Table) (p : Prices) (s : State) (fs : List Frame) → (judged t p s fs).core.trying ≡ s.core.trying
 unfolding booked
-judged_keeps_try t p s fs = above_keeps_try 32 0 t p fs (booked t s fs)
-
-wait_keeps_try : (t : Table) (p : Prices) (s : State) → (full_wait t p s).core.trying ≡ s.core.trying
-unfolding full_wait
-wait_keeps_try t p s = pick (λ (z : State). z.core.trying ≡ s.core.trying) (usable t s (suc s.core.place.0)) refl refl
-
-won_keeps_try : (t : Table) (p : Prices) (s : State) (r : ℕ) → (won t p s r).core.trying ≡ s.core.trying
-unfolding won
-won_keeps_try t p s r = wait_keeps_try t p (with_place s (place_from (place_count t) 0 t r s.core.place.0))
+judged_keeps_try t p s fs = above_kept t p (Same s.core.trying) (judging_keeps s.core.trying) 32 0 fs (booked t s fs) refl
 
 end_keeps_try : (t : Table) (p : Prices) (s : State) (r frames : ℕ) → (end_probe t p s r frames).core.trying ≡ s.core.trying
-unfolding end_probe
-end_keeps_try t p s r frames =
-    let j = judge_keeps_try t p s r in
-    pick (λ (z : State). z.core.trying ≡ s.core.trying) (eqb frames 0) refl
-    (pick (λ (z : State). z.core.trying ≡ s.core.trying) (better t p s r) (won_keeps_try t p (judge_try t p s r) r ∙ j) j)
+end_keeps_try t p s r frames = end_kept t p (Same s.core.trying) (ending_keeps t p s.core.trying) s r frames refl
 
 pub seed_keeps_try : (t : Table) (p : Prices) (s : State) (snr : Float) → (seed t p s snr).core.trying ≡ s.core.trying
 unfolding seed
@@ -71,21 +55,10 @@ seed_keeps_try t p s snr = go s.core.snr
 pub echo_rests : (t : Table) (p : Prices) (s : State) (share : Reading) (snr : Float) → let z = observe_echo t p s share snr in (z.core.trying ≡ None) ⊎ (z.core.trying ≡ s.core.trying)
 unfolding observe_echo
 echo_rests t p s None snr = inr refl
-echo_rests t p s (Some x) snr =
-    pick (λ (z : State). Rests s.core.trying z.core.trying) (lt snr echo_floor) (inr refl) (heard (with_echo s (smooth_echo s.core.echo x)))
+echo_rests t p s (Some x) snr = echo_kept t p Rests (record { place = λ z i h. h; cancelled = λ z h. inl refl }) s x snr (inr refl) (inr refl)
   where
-    Rests : Trying → Trying → Type 0
-    Rests y z = (z ≡ None) ⊎ (z ≡ y)
-
-    down : (m : State) → (down_if_out t p m).core.trying ≡ m.core.trying
-    down m = pick (λ (z : State). z.core.trying ≡ m.core.trying) (echo_out t m (choice t m)) refl refl
-
-    off : (m : State) (y : Trying) → m.core.trying ≡ y → Rests y (end_if_out t m y).core.trying
-    off m None e = inr e
-    off m (Some y) e = pick (λ (z : State). Rests (try_of y.rung y.calls y.frames) z.core.trying) (echo_out t m y.rung.0) (inl refl) (inr e)
-
-    heard : (m : State) → Rests m.core.trying (echoed t p m).core.trying
-    heard m = subst (λ (z : Trying). Rests m.core.trying z) (sym (down (end_if_out t m m.core.trying))) (off m m.core.trying refl)
+    Rests : State → Type 0
+    Rests z = (z.core.trying ≡ None) ⊎ (z.core.trying ≡ s.core.trying)
 
 -- ---- a frame call counts: the try is over, or has so many calls, fewer than six
 abbrev pub Goes : Rung → ℕ → Trying → Type 0
