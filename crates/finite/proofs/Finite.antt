@@ -22,6 +22,7 @@ use Rattle.ladder.proofs.Entries.{All, all_replicate}
 use Rattle.account.specs.declared.types.Account.{Account}
 use Rattle.account.specs.declared.types.Tariff.{Tariff}
 use Rattle.account.specs.declared.types.State.{State}
+use Rattle.account.specs.Fixed.{first_wait}
 use Rattle.account.specs.State.{no_account, account, since_of}
 use Rattle.account.specs.Price.{wait_s}
 use Rattle.account.proofs.FullAir.{TariffSound, bursts_small, IsWait}
@@ -159,7 +160,7 @@ state_lies : (s : State) → Held s → StateLies s
 state_lies s h = record {
   accounts = λ r. account_lies (account s r) (all_any AccountIn s.accounts r no_account h.accounts no_account_in);
   times = λ r. lies times (since_of s r) ends.6 (all_any (In times) s.since r f0 h.since zero_time);
-  waits = λ r. all_any IsWait s.wait r 6 h.wait (omega arith);
+  waits = λ r. all_any IsWait s.wait r first_wait h.wait (omega arith);
   snr = snr_lies s.core.snr h.snr;
   echo = limit_lies s.core.echo h.echo;
   floor_offset = lies offsets s.core.offsets.floor ends.5 h.offsets.floor;

@@ -16,13 +16,14 @@ use Rattle.ladder.specs.declared.types.Table.{Table}
 use Rattle.ladder.specs.Types.{rung}
 use Rattle.std.proofs.lemmas.Bool.{cond_both, or_parts}
 use Rattle.ladder.proofs.Cases.{pick}
+use Rattle.account.specs.Fixed.{try_frames, try_calls}
 use Rattle.account.specs.State.{Trying, try_of, runs, with_trying, with_place}
 use Rattle.account.specs.declared.types.Prices.{Prices}
 use Rattle.account.specs.declared.types.State.{State}
 use Rattle.rules.specs.Lowest.{Best}
 use Rattle.rules.specs.Echo.{usable, observe_echo, seed, seed_at, observe_snr}
 use Rattle.rules.specs.Booking.{Frame, booked}
-use Rattle.rules.specs.Tries.{Decided, end_probe, own_frames, counted, begins, above, decide_try, decide_at, decide, choose}
+use Rattle.rules.specs.Tries.{try_over, Decided, end_probe, own_frames, counted, begins, above, decide_try, decide_at, decide, choose}
 use Rattle.rules.specs.Transmission.{judged, inside}
 use Rattle.rules.proofs.Kept.{KeptByJudging, KeptByEnding, echo_kept, above_kept, end_kept}
 
@@ -62,7 +63,7 @@ echo_rests t p s (Some x) snr = echo_kept t p Rests (record { place = λ z i h. 
 
 -- ---- a frame call counts: the try is over, or has so many calls, fewer than six
 abbrev pub Goes : Rung → ℕ → Trying → Type 0
-Goes r calls y = (frames : ℕ) × (y ≡ try_of r calls frames) × (calls < 6)
+Goes r calls y = (frames : ℕ) × (y ≡ try_of r calls frames) × (calls < try_calls)
 
 abbrev Counted : Rung → ℕ → Trying → Type 0
 Counted r calls y = (y ≡ None) ⊎ Goes r calls y
@@ -70,9 +71,9 @@ Counted r calls y = (y ≡ None) ⊎ Goes r calls y
 count : (t : Table) (p : Prices) (n : ℕ) (s : State) (r : Rung) (calls frames : ℕ) → Counted r (suc calls) (counted t p n s (try_of r calls frames)).core.trying
 unfolding counted
 count t p n s r calls frames =
-    cond_both (leb 3 (frames + n) || leb 6 (suc calls)) _ _ (λ (z : State). Counted r (suc calls) z.core.trying)
+    cond_both (try_over (frames + n) calls) _ _ (λ (z : State). Counted r (suc calls) z.core.trying)
     (λ e. inl (end_keeps_try t p (with_trying s None) r.0 (frames + n)))
-    (λ e. inr (frames + n, refl, leb-false 6 (suc calls) (or_parts (leb 3 (frames + n)) (leb 6 (suc calls)) e).1))
+    (λ e. inr (frames + n, refl, leb-false try_calls (suc calls) (or_parts (leb try_frames (frames + n)) (leb try_calls (suc calls)) e).1))
 
 module _ (t : Table) (p : Prices) (s : State) (fs : List Frame) (snr : Reading) where
   inside_counts : (r : Rung) (calls frames : ℕ) → s.core.trying ≡ try_of r calls frames → Counted r (suc calls) (inside t p s fs snr).core.trying

@@ -11,6 +11,7 @@ use Rattle.limits.specs.Refusals.{Verdict}
 use Rattle.ladder.specs.declared.types.Rung.{Rung}
 use Rattle.limits.specs.Readings.{Reading}
 use Rattle.ladder.proofs.Cases.{or_here, or_there}
+use Rattle.account.specs.Fixed.{try_calls}
 use Rattle.account.specs.State.{Trying, try_of, runs}
 use Rattle.std.specs.Prelude.{None, Some}
 use Rattle.rules.specs.declared.types.Frame.{Frame}
@@ -33,7 +34,7 @@ Onward r calls ended y = T ended ⊎ Goes r calls y
 marked : (y : Trying) (r : Rung) (calls frames : ℕ) → y ≡ try_of r calls frames → (b : Bool) → T b → T (runs y && b)
 marked y r calls frames e b h = subst (λ (z : Trying). T (runs z && b)) (sym e) h
 
-rests_onward : (y z : Trying) (r : Rung) (calls frames : ℕ) → y ≡ try_of r calls frames → calls < 6 → (z ≡ None) ⊎ (z ≡ y) → Onward r calls (runs y && (false || not (runs z))) z
+rests_onward : (y z : Trying) (r : Rung) (calls frames : ℕ) → y ≡ try_of r calls frames → calls < try_calls → (z ≡ None) ⊎ (z ≡ y) → Onward r calls (runs y && (false || not (runs z))) z
 rests_onward y z r calls frames e l (inl h) = inl (marked y r calls frames e (false || not (runs z)) (subst (λ (w : Trying). T (false || not (runs w))) (sym h) tt))
 rests_onward y z r calls frames e l (inr h) = inr (frames, h ∙ e, l)
 
@@ -45,7 +46,7 @@ decided_onward y d r calls calls' frames e (inr h) = inr h
 abbrev counts : Bool → ℕ → ℕ
 counts b n = cond b (suc n) n
 
-accepted_onward : (k : RateController) (c : Call) (r : Rung) (calls frames : ℕ) → k.state.core.trying ≡ try_of r calls frames → calls < 6
+accepted_onward : (k : RateController) (c : Call) (r : Rung) (calls frames : ℕ) → k.state.core.trying ≡ try_of r calls frames → calls < try_calls
     → Onward r (counts (carries (carried_frames c)) calls) (accepted k c).ended (accepted k c).controller.state.core.trying
 unfolding accepted observe_frames silent
 accepted_onward k (Frames [] snr) r calls frames e l = inr (frames, e, l)
@@ -61,7 +62,7 @@ accepted_onward k (Seed snr) r calls frames e l =
 accepted_onward k (Price floor ordinary gap bursts) r calls frames e l = inr (frames, e, l)
 accepted_onward k (Family own other) r calls frames e l = inr (frames, e, l)
 
-step_onward : (k : RateController) (c : Call) (r : Rung) (calls frames : ℕ) → k.state.core.trying ≡ try_of r calls frames → calls < 6
+step_onward : (k : RateController) (c : Call) (r : Rung) (calls frames : ℕ) → k.state.core.trying ≡ try_of r calls frames → calls < try_calls
     → Onward r (counts (frame_call k c) calls) (step k c).ended (step k c).controller.state.core.trying
 step_onward k c r calls frames e l =
     by_verdict k c (λ (a : Answer). Onward r (counts (taken a.verdict && carries (carried_frames c)) calls) a.ended a.controller.state.core.trying)
