@@ -1,4 +1,4 @@
--- A walk over places by `greatest`: its start, one turn, its end, that what it finds has the value of its place, and that places from which on none is
+-- A walk over places by `greatest`: its from_start, one one_place, its end, that what it finds has the value of its place, and that places from which on none is
 -- allowed need no walk. Assumes nothing.
 use mathlib.Core.Path.{◌≡◌, refl, sym, ap, ◌∙◌}
 use mathlib.Core.Bool.{Bool, true, false, ◌&&◌, cond}
@@ -23,28 +23,28 @@ abbrev pub value_of_place : Table → Prices → State → ℕ → Float
 value_of_place t p s i = value t p s (rung_at t i)
 
 module _ (A : ℕ → Bool) (W : ℕ → Float) where
-  pub start : (n : ℕ) (b : Best) → greatest (n - 0) 0 A W b ≡ greatest n 0 A W b
-  start n b = let q : n - 0 ≡ n = omega arith in ap (λ (k : ℕ). greatest k 0 A W b) q
+  pub from_start : (n : ℕ) (b : Best) → greatest (n - 0) 0 A W b ≡ greatest n 0 A W b
+  from_start n b = let q : n - 0 ≡ n = omega arith in ap (λ (k : ℕ). greatest k 0 A W b) q
 
-  pub turn : (n i : ℕ) (b z : Best) → i < n → z ≡ improved A W i b → greatest (n - (i + 1)) (i + 1) A W z ≡ greatest (n - i) i A W b
+  pub one_place : (n i : ℕ) (b z : Best) → i < n → z ≡ improved A W i b → greatest (n - (i + 1)) (i + 1) A W z ≡ greatest (n - i) i A W b
   unfolding greatest
-  turn n i b z h q =
+  one_place n i b z h q =
       let m = n - (i + 1) in
       ap (λ (k : ℕ). greatest m k A W z) (add-one i) ∙ ap (greatest m (suc i) A W) q ∙ sym (ap (λ (k : ℕ). greatest k i A W b) (left h))
 
-  pub done : (n i : ℕ) (b : Best) → n ≤ i → b ≡ greatest (n - i) i A W b
+  pub at_end : (n i : ℕ) (b : Best) → n ≤ i → b ≡ greatest (n - i) i A W b
   unfolding greatest
-  done n i b h = sym (ap (λ (k : ℕ). greatest k i A W b) (none_left h))
+  at_end n i b h = sym (ap (λ (k : ℕ). greatest k i A W b) (none_left h))
 
   -- what is found has the value of its place
   abbrev pub Valued : Best → Type 0
   Valued None = Unit
   Valued (Some b) = b.value ≡ W b.place.0
 
-  pub keeps : (n i : ℕ) (b : Best) → Valued b → Valued (greatest n i A W b)
+  pub valued : (n i : ℕ) (b : Best) → Valued b → Valued (greatest n i A W b)
   unfolding greatest
-  keeps zero i b h = h
-  keeps (suc n) i b h = keeps n (suc i) (improved A W i b) (pick Valued (A i && exceeds (W i) b) refl h)
+  valued zero i b h = h
+  valued (suc n) i b h = valued n (suc i) (improved A W i b) (pick Valued (A i && exceeds (W i) b) refl h)
 
   module _ (m : ℕ) (far : (j : ℕ) → m ≤ j → A j ≡ false) where
     idle : (n i : ℕ) (b : Best) → m ≤ i → greatest n i A W b ≡ b

@@ -2,7 +2,7 @@
 ghost use Rattle.std.specs.Prelude.{◌≡◌, Some};
 ghost use Rattle.rules.specs.Echo.{smooth, smooth_snr, smooth_echo, over_limit};
 
-use account::fixed::{ECHO_OLD, ECHO_WEIGHT, SNR_OLD, SNR_NEW};
+use account::fixed::{ECHO_OLD, ECHO_WEIGHT, SNR_NEW, SNR_OLD};
 use limits::reading::Reading;
 
 // What was smoothed before and a new value, by their weights; the first value as it is.

@@ -10,8 +10,8 @@ use Rattle.account.specs.State.{choice, with_place}
 use Rattle.account.specs.Price.{value, estimate_at}
 use Rattle.rules.specs.Lowest.{found}
 use Rattle.rules.specs.Tries.{candidate, choose}
-use Rattle.rules.proofs.Greatest.{value_of_place, Valued, keeps}
+use Rattle.rules.proofs.Greatest.{value_of_place, Valued, valued}
 
 pub chosen : (t : Table) (p : Prices) (s : State) (i : Place) (v : Float) → choose t p s ≡ found i v → v ≡ value t p (with_place s i.0) (choice t (with_place s i.0))
 unfolding choose value estimate_at
-chosen t p s i v e = subst (Valued (candidate t s) (value_of_place t p s)) e (keeps (candidate t s) (value_of_place t p s) (place_count t) 0 None tt)
+chosen t p s i v e = subst (Valued (candidate t s) (value_of_place t p s)) e (valued (candidate t s) (value_of_place t p s) (place_count t) 0 None tt)

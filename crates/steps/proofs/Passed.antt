@@ -11,10 +11,10 @@ use Rattle.ladder.proofs.Ranges.{left, none_left}
 
 module _ (t : Table) (a : Float) (n i : ℕ) (l : List Float) where
   -- one place: the stored list, by whichever branch it came
-  pub turn : i < n → (r : ℕ) (z : List Float) → r ≡ rung_at t i → z ≡ set l r (get_or l r f0 ⊕ a) → passed (n - (i + 1)) (i + 1) t a z ≡ passed (n - i) i t a l
+  pub one_place : i < n → (r : ℕ) (z : List Float) → r ≡ rung_at t i → z ≡ set l r (get_or l r f0 ⊕ a) → passed (n - (i + 1)) (i + 1) t a z ≡ passed (n - i) i t a l
   unfolding passed
-  turn h r z e f = rw (f, e, left h, add-one i) refl
+  one_place h r z e f = rw (f, e, left h, add-one i) refl
 
-  pub done : n ≤ i → l ≡ passed (n - i) i t a l
+  pub at_end : n ≤ i → l ≡ passed (n - i) i t a l
   unfolding passed
-  done h = rw (none_left h) refl
+  at_end h = rw (none_left h) refl

@@ -26,7 +26,7 @@ fn is_candidate(t: &Table, s: &State, i: Place, r: Rung) -> bool
 // The lowest of greatest value.
 // (`best_among` of echo.rt walks so by another test and to another end. One walk for both would take the test as a closure, and promise, for every rule
 // that the closure may answer by, what is found by that rule: more than the few lines that stand twice.)
-#[tactic(auto, unfolding(rules::specs::Tries::choose), using(rules::proofs::Greatest::start, rules::proofs::Greatest::turn, rules::proofs::Greatest::done, crate::proofs::Front::rung_here))]
+#[tactic(auto, unfolding(rules::specs::Tries::choose), using(rules::proofs::Greatest::from_start, rules::proofs::Greatest::one_place, rules::proofs::Greatest::at_end, crate::proofs::Front::rung_here))]
 fn choose_place(terms: Terms, s: &State) -> Option<Found>
     ensures { result ≡ choose terms.entry.table.now terms.entry.prices.now s.now }
 {

@@ -30,7 +30,7 @@ pub(crate) fn usable(t: &Table, s: &State, i: Place) -> bool
 
 // ---- the lowest of greatest value
 // The best by value at an SNR of the usable ones among the first n places.
-#[tactic(auto, using(crate::proofs::Front::start_usable, crate::proofs::Front::met_under, crate::proofs::Front::rung_under, crate::proofs::Front::usable_here, rules::proofs::Greatest::turn, rules::proofs::Greatest::done))]
+#[tactic(auto, using(crate::proofs::Front::start_usable, crate::proofs::Front::met_under, crate::proofs::Front::rung_under, crate::proofs::Front::usable_here, rules::proofs::Greatest::one_place, rules::proofs::Greatest::at_end))]
 fn best_among(terms: Terms, s: &State, snr: Reading, n: u32) -> Option<Found>
     ensures { result ≡ greatest n 0 (usable terms.entry.table.now s.now) (place_value terms.entry.table.now terms.entry.prices.now s.now snr) None }
 {

@@ -13,7 +13,7 @@ use ladder::types::Table;
 use rules::pass::Pass;
 
 // The times since each front rung's try, with the call's air.
-#[tactic(auto, using(crate::proofs::Passed::turn, crate::proofs::Passed::done, crate::proofs::Front::rung_here))]
+#[tactic(auto, using(crate::proofs::Passed::one_place, crate::proofs::Passed::at_end, crate::proofs::Front::rung_here))]
 fn pass_times(t: &Table, s: &mut State, air: f64)
     ensures { s.new ≡ with_all_since s.old (passed (place_count t.now) 0 t.now air s.old.since) }
 {

@@ -93,7 +93,7 @@ is_own (Some y) f = at y.rung.0 f
 abbrev pub count_own : Trying → Frame → ℕ → ℕ
 count_own y f n = cond (is_own y f) (cond (ltb n try_frames) (suc n) n) n
 
--- ---- the pass
+-- ---- the pass: g is what it has gathered
 -- before the first frame; the core's SNR is smoothed already
 abbrev pub begin_pass : Core → Pass
 begin_pass c = record { sent = 0; offsets = c.offsets; air = f0; own = 0; marks = no_marks }
@@ -104,12 +104,12 @@ here_of t c = rung_at t c.place.0
 
 -- one frame
 unfoldable pub pass_step : Table → Core → Pass → Frame → Pass
-pass_step t c y f = record {
-  sent = add_rung y.sent f.rung.0;
-  offsets = offsets_by t c.snr f y.offsets;
-  air = y.air ⊕ f.air;
-  own = count_own c.trying f y.own;
-  marks = mark_choice (here_of t c) f (mark_family t f y.marks);
+pass_step t c g f = record {
+  sent = add_rung g.sent f.rung.0;
+  offsets = offsets_by t c.snr f g.offsets;
+  air = g.air ⊕ f.air;
+  own = count_own c.trying f g.own;
+  marks = mark_choice (here_of t c) f (mark_family t f g.marks);
 }
 
 -- all of them, in order
@@ -122,16 +122,16 @@ booked_accounts t fs s = record s { accounts = book t fs s.accounts }
 
 -- ---- after the pass
 abbrev pub finish_core : Table → Core → Pass → Core
-finish_core t c y =
-    record c { offsets = y.offsets; failed = family_mark y.marks c.failed; clean = choice_mark y.marks (rung (here_of t c)) }
+finish_core t c g =
+    record c { offsets = g.offsets; failed = family_mark g.marks c.failed; clean = choice_mark g.marks (rung (here_of t c)) }
 
 -- what it leaves of the state, the accounts being booked already
 unfoldable pub finish_pass : Table → State → Pass → State
-finish_pass t s y = record s { since = passed (place_count t) 0 t y.air s.since; core = finish_core t s.core y }
+finish_pass t s g = record s { since = passed (place_count t) 0 t g.air s.since; core = finish_core t s.core g }
 
 -- then the rungs sent are judged, a running try is counted, and `decide` has the last word
 abbrev pub judged_pass : Table → Prices → State → Pass → State
-judged_pass t p s y = judge_set y.sent t p (finish_pass t s y)
+judged_pass t p s g = judge_set g.sent t p (finish_pass t s g)
 
 unfoldable pub decided_pass : Table → Prices → State → Pass → Decided
-decided_pass t p s y = decide t p (counted t p y.own (judged_pass t p s y) (judged_pass t p s y).core.trying)
+decided_pass t p s g = decide t p (counted t p g.own (judged_pass t p s g) (judged_pass t p s g).core.trying)

@@ -1,3 +1,4 @@
+-- What is left of lines and answers, scored on top of the score so far, gives the whole score; and neither count is past the lines read, so none wraps.
 use Rattle.std.specs.Prelude.{◌≡◌, ◌≤◌, length, drop}
 use Rattle.paper.specs.bridges.Said.{score_lines}
 use Rattle.paper.proofs.mark.score_all.Given as goal

@@ -1,3 +1,4 @@
+-- What is written is the text of the lines before this one, and the slice past it is as it was.
 use Rattle.std.specs.Prelude.{◌+◌, drop}
 use Rattle.question.proofs.Over.{Partly}
 use Rattle.paper.specs.bridges.Said.{text_from}

@@ -1,3 +1,4 @@
+-- The pairs are chained if those before this one were and what is left of them is, from where the last body ended.
 use Rattle.question.specs.File.{event_count}
 use Rattle.question.proofs.Pairs.{Chained}
 use Rattle.question.proofs.file.ok_pairs.Given as goal

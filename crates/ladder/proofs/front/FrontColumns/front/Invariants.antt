@@ -1,3 +1,4 @@
+-- The array holds the rungs before this one that no other beats, ascending, and its count is how many they are.
 use Prim.Native.Nat.{◌-◌, ◌≤◌}
 use lib.ListN.{length}
 use Rattle.ladder.specs.Front.{beaten}
