@@ -75,7 +75,7 @@ pub struct Core {
 }
 
 // What the calls move. By rung: accounts, seconds of air since its last try, and its wait in full transmissions; and all that is no array.
-// (An array each, and not one of structs: document 01 has the accounts "kept in an array by rung". A frame is booked on that array alone, `book_accounts`,
+// (An array each, and not one of structs: document 01 has the accounts "kept in an array by rung". A frame is booked on that array alone, `book_frame`,
 // which is lent it and so need promise nothing of times and waits.)
 #[derive(Clone, Copy, PartialEq, Debug)]
 pub struct State {

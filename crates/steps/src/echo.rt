@@ -21,7 +21,7 @@ pub(crate) fn echo_out(t: &Table, s: &State, r: Rung) -> bool
 }
 
 // Whether a place exists and its rung is not out.
-// (The place's number is tested: `places` is a count, and no `Place`.)
+// (The place's number is tested: `place_count` is a count, and no `Place`.)
 pub(crate) fn usable(t: &Table, s: &State, i: Place) -> bool
     ensures { result ≡ usable t.now s.now i.0 }
 {
