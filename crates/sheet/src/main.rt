@@ -33,7 +33,7 @@ fn fail(rt: &(impl Eprint + Alloc), what: &str, why: io::Error) -> io::Result<()
     eprintln!(rt; "{what}: {why}")
 }
 
-fn print_sheet(rt: &(impl Input + Print + Eprint + Alloc)) -> io::Result<()> {
+fn put_sheet(rt: &(impl Input + Print + Eprint + Alloc)) -> io::Result<()> {
     let mut question = Vec::new(rt.alloc());
     if let Err(why) = rt.reader().take(ROOM).read_to_end(&mut question) {
         return fail(rt, "standard input", why);
@@ -51,6 +51,6 @@ fn main(rt: HostRuntime) {
     let _ = if has_argument(&rt, 1) {
         eprintln!(rt; "usage: sheet < QUESTION")
     } else {
-        print_sheet(&rt)
+        put_sheet(&rt)
     };
 }
