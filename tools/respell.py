@@ -164,5 +164,7 @@ def main():
     print(f"respell: {len(table)} names, {count} files")
 
 
-if __name__ == "__main__":
+if "--help" in sys.argv:
+    print(__doc__.strip())
+elif __name__ == "__main__":
     sys.exit(main())

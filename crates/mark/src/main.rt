@@ -1,5 +1,6 @@
 // Marks a paper: prints how many of the answers are right and how many count, or `refused` and the number. Its arguments name the question file and the
-// file of answers, one byte an event. A file that cannot be read is named on standard error, and nothing is printed.
+// file of answers, one byte an event. What could not be read or written is named on standard error; the status is always 0, since what the program found
+// is in what it prints.
 #![tactic(auto)]
 
 use limits::refusal::Refusal;
@@ -27,22 +28,25 @@ fn put_marks(rt: &impl Print, marks: Result<Score, Refusal>) -> io::Result<()> {
     }
 }
 
-// The system's words for an error, without the number that std writes behind them. (The program sheet has the same two
-// functions: a crate for them would be no plainer, with a root, a line in crates.txt and two imports for their four lines.)
+// The program sheet has the same three functions. In a crate for both they would be public calls, of which no contract could say the outcome: what
+// reaches standard error is nothing that a clause speaks of.
+
+fn has_argument(rt: &impl Env, argument: usize) -> bool {
+    !matches!(rt.arg(argument, &mut []), Err(FillError::NotPresent))
+}
+
+// The system's words for an error, without the number that std writes behind them.
 fn words(text: &str) -> &str {
     text.split(" (os error ").next().unwrap_or(text)
 }
 
-// Says on standard error what could not be read, and why.
+// Says on standard error what could not be read or written, and why; with the number, if there is no memory to cut it off.
 fn fail(rt: &(impl Eprint + Alloc), what: &str, why: io::Error) -> io::Result<()> {
-    let text = format!(in rt.alloc(); "{why}")?;
+    let Ok(text) = format!(in rt.alloc(); "{why}") else {
+        return eprintln!(rt; "{what}: {why}");
+    };
     let why = words(text.as_str());
     eprintln!(rt; "{what}: {why}")
-}
-
-fn has_argument(rt: &impl Env, argument: usize) -> bool {
-    let mut path = [0u8; PATH];
-    !matches!(rt.arg(argument, &mut path), Err(FillError::NotPresent))
 }
 
 // Opens the file that an argument names. Where there is none, says so and answers none.
@@ -78,18 +82,27 @@ fn mark_files<F: Read + Drop, R: Print + Eprint + Alloc>(
     if let Err(why) = answers_file.take(ANSWERS).read_to_end(&mut answers) {
         return fail(rt, "answers", why);
     }
-    put_marks(rt, paper::mark::mark(&question, &answers))
+    if let Err(why) = put_marks(rt, paper::mark::mark(&question, &answers)) {
+        return fail(rt, "standard output", why);
+    }
+    Ok(())
 }
 
-fn main(rt: HostRuntime) -> io::Result<()> {
-    if !has_argument(&rt, 2) || has_argument(&rt, 3) {
-        return eprintln!(rt; "usage: mark QUESTION ANSWERS");
-    }
-    let Some(question) = open(&rt, 1)? else {
+fn mark<R: Env + Files + Print + Eprint + Alloc>(rt: &R) -> io::Result<()> {
+    let Some(question) = open(rt, 1)? else {
         return Ok(());
     };
-    let Some(answers) = open(&rt, 2)? else {
+    let Some(answers) = open(rt, 2)? else {
         return Ok(());
     };
-    mark_files(&rt, question, answers)
+    mark_files(rt, question, answers)
+}
+
+fn main(rt: HostRuntime) {
+    // An error is left only where standard error itself could not be written, and then nobody can be told.
+    let _ = if has_argument(&rt, 2) && !has_argument(&rt, 3) {
+        mark(&rt)
+    } else {
+        eprintln!(rt; "usage: mark QUESTION ANSWERS")
+    };
 }
