@@ -244,6 +244,26 @@ mod tests {
     }
 
     #[test]
+    fn reads_are_refused() {
+        let oracle = wide();
+        assert_eq!((oracle.value(20), oracle.estimate(20)), (Err(6), Err(6)));
+        assert!(oracle.value(19).is_ok() && oracle.estimate(19).is_ok());
+        let past = 200.0_f64.next_up();
+        assert_eq!(oracle.first_mode(past), Err(8));
+        assert_eq!(oracle.first_mode(200.0), Ok(19));
+    }
+
+    #[test]
+    fn observe_takes_a_reading_within_the_limits() {
+        let mut oracle = wide();
+        assert_eq!(oracle.observe(Some(f64::NAN)).verdict, 8);
+        assert_eq!(oracle.observe(None).verdict, 0);
+        assert_eq!(oracle.rate.snr_db(), None);
+        assert_eq!(oracle.observe(Some(7.0)).verdict, 0);
+        assert_eq!(oracle.rate.snr_db(), Some(7.0));
+    }
+
+    #[test]
     fn ofdm_is_refused_after_a_lost_frame() {
         let mut oracle = wide();
         assert!(!oracle.ofdm_refused());

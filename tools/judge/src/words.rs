@@ -89,7 +89,8 @@ impl Words {
     /// The prices and the families last set.
     fn prices(&mut self, oracle: &Oracle) {
         let rate = &oracle.rate;
-        self.option("prices", rate.seen_control_s(), |words, [floor, ordinary]| {
+        let control_s = rate.seen_control_s();
+        self.option("prices", control_s, |words, [floor, ordinary]| {
             words.float("floor", floor);
             words.float("ordinary", ordinary);
             words.float("gap", rate.seen_gap_s());
