@@ -1,7 +1,7 @@
 // Plays recorded lists of calls, and writes what each call leaves: choice, tried rung, OFDM refused, the marks, the refusal's number or 0, and a hash of
-// the state and of what each call that only reads answers (mix.rt). Standard input has lists one after the other, little-endian: u32 rungs, floor rungs, wide (1 or 0), echo limits given; per rung
-// threshold f64, payload u32, capacity u32, frame time f64; the limits as readings; u32 calls, and each call as u32 length and a body in the question
-// file's own form. What the Rust answered is in the file stdout, which the gate holds this program to.
+// the state and of what every call that only reads answers (mix.rt). Standard input has lists one after the other, little-endian: u32 rungs, floor
+// rungs, wide (1 or 0), echo limits given; per rung threshold f64, payload u32, capacity u32, frame time f64; the limits as readings; u32 calls, and each
+// call as u32 length and a body in the question file's own form. What the Rust answered is in the file stdout, which the gate holds this program to.
 #![tactic(auto)]
 
 ghost use Rattle.std.specs.Prelude.{◌≤◌, IfSome};

@@ -1,6 +1,6 @@
 // What a controller is and what its reads answer, as one hash: a word more is xored in, the bits are turned left by 29, and a constant is added.
-// A missing thing is the word 0, and one that is there a 1 before it; a refused one is its number, and an accepted one a 0 before it. The same words, in
-// this order, are the Rust's in tools/judge/src/trace.rs.
+// A missing thing is the word 0, and one that is there has a 1 before it; a refused one is its number, and an accepted one has a 0 before it. The same
+// words of the Rust, in this order, are those of tools/judge/src/words.rs.
 use account::types::{Account, Families, Offsets, Tariff, Try};
 use ladder::types::{Front, Rung};
 use limits::reading::Reading;
@@ -15,15 +15,15 @@ const FAR: Rung = Rung(40);
 
 // A hash so far.
 #[derive(Clone, Copy)]
-pub struct Mix(u64);
+pub(crate) struct Mix(u64);
 
 // ---- the words of a value
 impl Mix {
     // The hash of nothing.
-    pub const START: Mix = Mix(0xcbf2_9ce4_8422_2325);
+    pub(crate) const START: Mix = Mix(0xcbf2_9ce4_8422_2325);
 
     // The hash itself.
-    pub fn hash(self) -> u64 {
+    pub(crate) fn hash(self) -> u64 {
         self.0
     }
 
@@ -174,7 +174,7 @@ impl Mix {
     }
 
     // A controller: the rungs of its table, the next one past them, and one far past them.
-    pub fn controller(self, k: &RateController) -> Mix {
+    pub(crate) fn controller(self, k: &RateController) -> Mix {
         let mut all = self.core(k).prices(k).named(k);
         for r in 0..k.table.air.count {
             all = all.rung(k, Rung(r));
@@ -183,7 +183,7 @@ impl Mix {
     }
 
     // What a call by value returns and leaves.
-    pub fn answer(self, a: &Answer) -> Mix {
+    pub(crate) fn answer(self, a: &Answer) -> Mix {
         self.verdict(a.verdict)
             .flag(a.ended)
             .flag(a.begun)
