@@ -1,22 +1,23 @@
-// Plays recorded lists of calls, and writes what each call leaves: choice, tried rung, OFDM refused, the marks, the refusal's number or 0, and a hash of
-// the state and of what every call that only reads answers (mix.rt). Standard input has lists one after the other, little-endian: u32 rungs, floor
-// rungs, wide (1 or 0), echo limits given; per rung threshold f64, payload u32, capacity u32, frame time f64; the limits as readings; u32 calls, and each
-// call as u32 length and a body in the question file's own form. What the Rust answered is in the file stdout, which the gate holds this program to.
+// Plays recorded lists of calls, and writes what each call leaves: choice, tried rung, OFDM refused, the marks, the refusal's number or 0, and a hash
+// of what the call by value says and leaves (by_value.rt), of the state, and of what every call that only reads answers (mix.rt). Standard input has
+// lists one after the other, little-endian: u32 rungs, floor rungs, wide (1 or 0), echo limits given; per rung threshold f64, payload u32, capacity
+// u32, frame time f64; the limits as readings; u32 calls, and each call as u32 length and a body in the question file's own form. What the Rust
+// answered is in the file stdout, which the gate holds this program to.
 #![tactic(auto)]
 
 ghost use Rattle.std.specs.Prelude.{◌≤◌, IfSome};
 ghost use Rattle.trace.specs.declared.TheConstants.{MOST, RUNG};
 
+mod by_value;
 mod mix;
 
 use ladder::columns::Columns;
 use ladder::types::Rung;
 use limits::refusal::Refusal;
 use mix::Mix;
-use question::bytes::{byte_at, f64_of, part, past, reading_of, u32_of};
-use question::types::Kind;
+use question::bytes::{f64_of, part, past, reading_of, u32_of};
 use rate::player::Player;
-use rate::types::{RateController, Reply};
+use rate::types::{Answer, RateController, Reply};
 use std::alloc::AllocError;
 use std::io::Read;
 use std::{fmt, io};
@@ -158,16 +159,8 @@ impl fmt::Display for Tried {
     }
 }
 
-// What `observe` by value says and leaves of an SNR call's reading, on the controller before the call; of any other call nothing.
-fn observed(k: &RateController, body: &[u8]) -> Mix {
-    match Kind::try_from(byte_at(body, 0)) {
-        Ok(Kind::Snr) => Mix::START.answer(&(*k).observe(reading_of(past(body, 1)))),
-        _ => Mix::START,
-    }
-}
-
-// Writes a call's line, whose hash goes on from `seen`. Of a refused call both marks are off.
-fn tell(rt: &impl Print, k: &RateController, reply: Reply, seen: Mix) -> io::Result<()> {
+// Writes a call's line. Of a refused call both marks are off.
+fn tell(rt: &impl Print, k: &RateController, reply: Reply, by_value: &Answer) -> io::Result<()> {
     let number = reply.err().map_or(0, |why| why.number());
     let marks = reply.unwrap_or_default();
     let choice = k.choice();
@@ -175,13 +168,13 @@ fn tell(rt: &impl Print, k: &RateController, reply: Reply, seen: Mix) -> io::Res
     let ofdm = u32::from(k.refuses_ofdm());
     let ended = u32::from(marks.ended);
     let begun = u32::from(marks.begun);
-    let all = seen.controller(k).hash();
+    let all = Mix::START.answer(by_value).controller(k).hash();
     println!(rt; "{choice} {tried} {ofdm} {ended} {begun} {number} {all:016x}")
 }
 
-// Plays the calls that are next.
+// Plays the calls that are next, each by value and then in place.
 fn play_calls(
-    rt: &impl Print,
+    rt: &(impl Print + AllocGlobal),
     start: RateController,
     input: &mut Input,
     calls: u32,
@@ -189,9 +182,9 @@ fn play_calls(
     let mut player = Player::new(start);
     for _ in 0..calls {
         let body = input.call();
-        let seen = observed(player.controller(), body);
+        let by_value = by_value::answer(rt, *player.controller(), body)?;
         let reply = question::event::play(&mut player, body);
-        tell(rt, player.controller(), reply, seen)?;
+        tell(rt, player.controller(), reply, &by_value)?;
     }
     Ok(())
 }

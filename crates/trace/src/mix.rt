@@ -144,6 +144,22 @@ impl Mix {
         self.tariff(k.prices.tariff).families(k.families())
     }
 
+    // What the calls move of a rung: its account, its time since a try, and its wait.
+    fn moved(self, k: &RateController, r: Rung) -> Mix {
+        self.account(k.state.account(r))
+            .float(k.state.since(r))
+            .number(k.state.wait(r))
+    }
+
+    // All of a controller but its table.
+    fn state(self, k: &RateController) -> Mix {
+        let mut all = self.core(k).prices(k);
+        for r in 0..k.table.air.count {
+            all = all.moved(k, Rung(r));
+        }
+        all
+    }
+
     // The rungs that it names: to use, tried, usable, and to start at from each SNR.
     fn named(self, k: &RateController) -> Mix {
         let mut all = self
@@ -166,18 +182,11 @@ impl Mix {
             .flag(k.refuses(r))
     }
 
-    // A rung of the table: what is asked of it, its time since a try, and its wait.
-    fn rung(self, k: &RateController, r: Rung) -> Mix {
-        self.asked(k, r)
-            .float(k.state.since(r))
-            .number(k.state.wait(r))
-    }
-
-    // A controller: the rungs of its table, the next one past them, and one far past them.
+    // A controller: its state and what it answers, of the rungs of its table, of the next one past them, and of one far past them.
     pub(crate) fn controller(self, k: &RateController) -> Mix {
-        let mut all = self.core(k).prices(k).named(k);
+        let mut all = self.state(k).named(k);
         for r in 0..k.table.air.count {
-            all = all.rung(k, Rung(r));
+            all = all.asked(k, Rung(r));
         }
         all.asked(k, Rung(k.table.air.count)).asked(k, FAR)
     }
@@ -187,6 +196,6 @@ impl Mix {
         self.verdict(a.verdict)
             .flag(a.ended)
             .flag(a.begun)
-            .controller(&a.controller)
+            .state(&a.controller)
     }
 }

@@ -1,5 +1,5 @@
-//! What the calls that only read were asked, as the program `trace` asks them after each call, and `observe` beside an
-//! SNR call: a comparison that never saw a rung refused, or a try to recommend, would say little of them.
+//! What the calls that only read were asked, as the program `trace` asks them after each call, and `observe` and
+//! `observe_frame` by value: a comparison that never saw a rung refused, or a try to recommend, would say little of them.
 
 use crate::counts::{self, Count, named};
 use crate::coverage::tied;
@@ -34,9 +34,11 @@ enum Seen {
     ObserveFirst,
     ObserveSmooths,
     ObserveRefused,
+    OneFrame,
+    OneFrameRefused,
 }
 
-const NAMES: [&str; 23] = [
+const NAMES: [&str; 25] = [
     "recommend: the tried rung",
     "recommend: the choice",
     "snr_db: missing",
@@ -60,6 +62,8 @@ const NAMES: [&str; 23] = [
     "observe: the first reading",
     "observe: smoothed",
     "observe: refused 8",
+    "observe_frame: accepted",
+    "observe_frame: refused",
 ];
 
 #[derive(Clone)]
@@ -90,15 +94,24 @@ impl Asked {
         self.see(if happened { what } else { other });
     }
 
-    /// `observe` of an SNR call's reading, before the call.
-    pub fn observe(&mut self, before: &Oracle, event: &Event) {
-        let Event::Snr(reading) = event else {
-            return;
-        };
+    /// Of the calls by value those that have no kind of their own, before the call.
+    pub fn by_value(&mut self, before: &Oracle, event: &Event) {
+        match event {
+            Event::Snr(reading) => self.observe(before, *reading),
+            Event::Frames { frames, .. } if frames.len() == 1 => {
+                let accepted = before.verdict(event) == 0;
+                self.see_either(accepted, Seen::OneFrame, Seen::OneFrameRefused);
+            }
+            _ => {}
+        }
+    }
+
+    /// `observe` of an SNR call's reading.
+    fn observe(&mut self, before: &Oracle, reading: Option<f64>) {
         let known = before.rate.snr_db().is_some();
         self.see(match reading {
             None => Seen::ObserveMissing,
-            Some(snr_db) if !DB.hold(*snr_db) => Seen::ObserveRefused,
+            Some(snr_db) if !DB.hold(snr_db) => Seen::ObserveRefused,
             Some(_) if known => Seen::ObserveSmooths,
             Some(_) => Seen::ObserveFirst,
         });

@@ -1,5 +1,6 @@
 //! Lists of calls in the form that the program `trace` reads, and the lines that it must answer: choice, try, refusal
-//! of OFDM, marks and verdict in full, and a hash of the state and of what is read of it after each call.
+//! of OFDM, marks and verdict in full, and a hash of what the call by value says and leaves, of the state after the call,
+//! and of what is read of it.
 
 use crate::coverage::Coverage;
 use crate::event::{Event, reading};
@@ -53,10 +54,11 @@ impl List {
         coverage.table(0);
         let mut lines = format!("table places {}\n", oracle.rate.modes().len());
         for event in &self.events {
-            let mut words = Words::observed(&oracle, event);
-            coverage.asked.observe(&oracle, event);
+            let observed = Words::observed(&oracle, event);
+            coverage.asked.by_value(&oracle, event);
             let answer = coverage.take(&mut oracle, event);
             coverage.asked.reads(&oracle);
+            let mut words = observed.unwrap_or_else(|| Words::left(answer, &oracle));
             words.controller(&oracle);
             line(&mut lines, &oracle, answer, &words);
         }
@@ -87,8 +89,9 @@ pub fn named_words(list: &List) -> String {
     };
     let mut words = Words::default();
     for event in &list.events {
-        words = Words::observed(&oracle, event);
-        oracle.take(event);
+        let observed = Words::observed(&oracle, event);
+        let answer = oracle.take(event);
+        words = observed.unwrap_or_else(|| Words::left(answer, &oracle));
         words.controller(&oracle);
     }
     words.named()

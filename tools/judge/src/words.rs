@@ -3,7 +3,8 @@
 //! there a 1 before it; a refused one is its number, and an accepted one a 0 before it.
 
 use crate::event::Event;
-use crate::oracle::Oracle;
+use crate::oracle::{Answer, Oracle};
+use crate::rate::Account;
 
 /// The SNRs that `first_mode` is asked at, the last one outside the limits.
 pub const SNRS: [f64; 5] = [-10.0, 5.0, 20.0, 200.0, 201.0];
@@ -14,7 +15,7 @@ pub const FAR: usize = 40;
 type Word = (&'static str, u64);
 
 /// What begins a line where words are printed.
-const STARTS: [&str; 4] = ["verdict", "place", "to use", "bytes"];
+const STARTS: [&str; 5] = ["verdict", "place", "account", "to use", "asked"];
 
 #[derive(Default)]
 pub struct Words(Vec<Word>);
@@ -39,33 +40,49 @@ impl Words {
         text.collect()
     }
 
-    /// Of an SNR call what `observe` says and leaves of its reading, on the controller before the call; of any other
-    /// call nothing.
-    pub fn observed(before: &Oracle, event: &Event) -> Self {
+    /// Of an SNR call what `observe` says and leaves of its reading, on the controller before the call.
+    pub fn observed(before: &Oracle, event: &Event) -> Option<Self> {
+        let Event::Snr(snr_db) = event else {
+            return None;
+        };
+        let mut oracle = before.clone();
+        let answer = oracle.observe(*snr_db);
+        Some(Self::left(answer, &oracle))
+    }
+
+    /// What a call says and leaves. (The Rust has one method for the call by value and in place.)
+    pub fn left(answer: Answer, after: &Oracle) -> Self {
         let mut words = Self::default();
-        if let Event::Snr(snr_db) = event {
-            let mut oracle = before.clone();
-            let answer = oracle.observe(*snr_db);
-            words.word("verdict", answer.verdict.into());
-            words.word("ended", answer.ended.into());
-            words.word("begun", answer.begun.into());
-            words.controller(&oracle);
-        }
+        words.word("verdict", answer.verdict.into());
+        words.word("ended", answer.ended.into());
+        words.word("begun", answer.begun.into());
+        words.state(after);
         words
     }
 
-    /// A controller: the rungs of its table, the next one past them, and one far past them.
+    /// A controller: its state and what it answers, of the rungs of its table, of the next one past them, and of one
+    /// far past them.
     pub fn controller(&mut self, oracle: &Oracle) {
-        self.core(oracle);
-        self.prices(oracle);
+        self.state(oracle);
         self.rungs_named(oracle);
-        for rung in 0..oracle.rungs {
-            self.asked(oracle, rung);
-            self.float("since", oracle.rate.seen_since(rung));
-            self.word("wait", oracle.rate.seen_wait(rung) as u64);
-        }
+        (0..oracle.rungs).for_each(|rung| self.asked(oracle, rung));
         self.asked(oracle, oracle.rungs);
         self.asked(oracle, FAR);
+    }
+
+    /// All of a controller but its table.
+    fn state(&mut self, oracle: &Oracle) {
+        self.core(oracle);
+        self.prices(oracle);
+        (0..oracle.rungs).for_each(|rung| self.moved(oracle, rung));
+    }
+
+    /// What the calls move of a rung.
+    fn moved(&mut self, oracle: &Oracle, rung: usize) {
+        let rate = &oracle.rate;
+        self.account("account", rate.account(rung));
+        self.float("since", rate.seen_since(rung));
+        self.word("wait", rate.seen_wait(rung) as u64);
     }
 
     /// What the calls move, but for what they move of each rung.
@@ -121,10 +138,7 @@ impl Words {
     /// What it answers of a rung, which may be outside the table.
     fn asked(&mut self, oracle: &Oracle, rung: usize) {
         let rate = &oracle.rate;
-        let account = rate.account(rung);
-        self.float("bytes", account.bytes);
-        self.float("air", account.air_s);
-        self.float("frames", account.frames);
+        self.account("asked", rate.account(rung));
         self.reading("threshold", rate.threshold_db(rung));
         let rated = |words: &mut Self, x| words.float("=", x);
         self.answer("value", oracle.value(rung), rated);
@@ -150,6 +164,12 @@ impl Words {
         if let Some(x) = x {
             put(self, x);
         }
+    }
+
+    fn account(&mut self, name: &'static str, account: Account) {
+        self.float(name, account.bytes);
+        self.float("air", account.air_s);
+        self.float("frames", account.frames);
     }
 
     fn reading(&mut self, name: &'static str, x: Option<f64>) {
