@@ -7,11 +7,12 @@ use rate::types::{Answer, RateController};
 use rules::types::Frame;
 use std::alloc::AllocError;
 
-// The bytes of a frame, of what stands before the first one, and of both; of what stands before the burst counts, and of a count.
+// The bytes of a frame, and with them those that stand before the first one.
 const FRAME: usize = 12;
 
 const FRAMED: usize = 22;
 
+// The bytes before the burst counts, and those of a count.
 const PRICES: usize = 25;
 
 const BURST: usize = 2;
