@@ -1,17 +1,19 @@
 // Replays recorded tables. They stand on standard input one after the other, little-endian. A record begins with a byte each for the entries of its
 // five columns (0 to 40), a byte 0 and the count of floor rungs, a u32; then the columns: thresholds f64, payloads u32, capacities u32, frame times f64,
-// and echo limits, a byte 0 or 1 and an f64 each. For each a line is written: `front` and the rungs of the table that `table_for` makes, or `refused` and
-// the number; then `usable` and the rungs that `usable_modes_by_rate` answers, or its number. What the Rust and the judge's reading of document 01
-// answered is in the file stdout, which the gate holds this program to.
+// and echo limits, a byte 0 or 1 and an f64 each. The first line is of no record: `wide` and the rungs that `usable_modes` answers. Then a line for each:
+// `front` and the rungs of the table that `table_for` makes, `usable` and those that `usable_modes_by_rate` answers, and `payload` and those that
+// `usable_modes_of` answers; for rungs that are refused `refused` and the number. What the Rust and the judge's reading of document 01 answered is in the
+// file stdout, which the gate holds this program to.
 #![tactic(auto)]
 
 ghost use Rattle.std.specs.Prelude.{◌<◌, ◌≤◌, length, IfSome};
 
 use ladder::columns::Columns;
-use ladder::front::usable_modes_by_rate;
+use ladder::front::{usable_modes, usable_modes_by_rate, usable_modes_of};
 use ladder::table::table_for;
-use ladder::types::Rung;
+use ladder::types::Front;
 use limits::reading::Reading;
+use limits::refusal::Refusal;
 use question::bytes::{byte_at, f64_of, past, u32_of};
 use std::alloc::{AllocError, Allocator};
 use std::io;
@@ -28,7 +30,7 @@ const NUMBER: usize = 4;
 const READING: usize = 9;
 
 // The most bytes of an input that are read.
-const ROOM: u64 = 65536;
+const ROOM: u64 = 1048576;
 
 // The bytes of a record's columns, and its count of floor rungs.
 #[derive(Clone, Copy)]
@@ -92,28 +94,28 @@ fn first_record(text: &[u8]) -> Option<(Record<'_>, &[u8])>
     Some((record, rest))
 }
 
-// ---- writing: each number behind a space
-fn put_rungs(rt: &impl Print, rungs: &[Rung]) -> io::Result<()> {
-    for rung in rungs {
-        print!(rt; " {rung}")?;
+// ---- writing
+// Writes whose front it is, and its rungs, each behind a space, or why there is none.
+fn put_front(rt: &impl Print, name: &str, front: Result<Front, Refusal>) -> io::Result<()> {
+    print!(rt; "{name}")?;
+    match front {
+        Ok(front) => {
+            for rung in front.rungs() {
+                print!(rt; " {rung}")?;
+            }
+            Ok(())
+        }
+        Err(why) => print!(rt; " {why}"),
     }
-    Ok(())
 }
 
 // Writes the line of a table of these columns.
 fn put_line(rt: &impl Print, columns: &Columns) -> io::Result<()> {
-    match table_for(columns) {
-        Ok(table) => {
-            print!(rt; "front")?;
-            put_rungs(rt, table.front())?;
-        }
-        Err(why) => print!(rt; "{why}")?,
-    }
-    print!(rt; " usable")?;
-    match usable_modes_by_rate(columns.thresholds, columns.payloads, columns.times) {
-        Ok(front) => put_rungs(rt, front.rungs())?,
-        Err(why) => print!(rt; " {}", why.number())?,
-    }
+    let (thresholds, payloads) = (columns.thresholds, columns.payloads);
+    let usable = usable_modes_by_rate(thresholds, payloads, columns.times);
+    put_front(rt, "front", table_for(columns).map(|table| table.front))?;
+    put_front(rt, " usable", usable)?;
+    put_front(rt, " payload", usable_modes_of(thresholds, payloads))?;
     println!(rt)
 }
 
@@ -147,5 +149,7 @@ fn replay(rt: &(impl Print + Alloc), mut text: &[u8]) -> io::Result<()> {
 fn main(rt: HostRuntime) -> io::Result<()> {
     let mut text = Vec::new(rt.alloc());
     rt.reader().take(ROOM).read_to_end(&mut text)?;
+    put_front(&rt, "wide", usable_modes())?;
+    println!(rt)?;
     replay(&rt, &text)
 }

@@ -1,20 +1,23 @@
-// Plays recorded lists of calls, and writes what each call leaves: choice, tried rung, OFDM refused, the marks, the refusal's number or 0, and a hash of
-// the whole state. Standard input has lists one after the other, little-endian: u32 rungs, floor rungs, wide (1 or 0), echo limits given; per rung
-// threshold f64, payload u32, capacity u32, frame time f64; the limits as readings; u32 calls, and each call as u32 length and a body in the question
-// file's own form. What the Rust answered is in the file stdout, which the gate holds this program to.
+// Plays recorded lists of calls, and writes what each call leaves: choice, tried rung, OFDM refused, the marks, the refusal's number or 0, and a hash
+// of what the call by value says and leaves (by_value.rt), of the state, and of what every call that only reads answers (mix.rt). Standard input has
+// lists one after the other, little-endian: u32 rungs, floor rungs, wide (1 or 0), echo limits given; per rung threshold f64, payload u32, capacity
+// u32, frame time f64; the limits as readings; u32 calls, and each call as u32 length and a body in the question file's own form. What the Rust
+// answered is in the file stdout, which the gate holds this program to.
 #![tactic(auto)]
 
 ghost use Rattle.std.specs.Prelude.{◌≤◌, IfSome};
 ghost use Rattle.trace.specs.declared.TheConstants.{MOST, RUNG};
 
-use account::types::{Core, Try};
+mod by_value;
+mod mix;
+
 use ladder::columns::Columns;
 use ladder::types::Rung;
-use limits::reading::Reading;
 use limits::refusal::Refusal;
+use mix::Mix;
 use question::bytes::{f64_of, part, past, reading_of, u32_of};
 use rate::player::Player;
-use rate::types::{RateController, Reply};
+use rate::types::{Answer, RateController, Reply};
 use std::alloc::AllocError;
 use std::io::Read;
 use std::{fmt, io};
@@ -29,81 +32,6 @@ const MOST: usize = 32;
 
 // The most bytes of an input that are read.
 const ROOM: u64 = 1048576;
-
-// ---- the hash: one word more is xored in, the bits are turned left by 29, and a constant is added
-#[derive(Clone, Copy)]
-struct Mix(u64);
-
-impl Mix {
-    fn word(self, w: u64) -> Mix {
-        Mix(
-            (self.0 ^ w)
-                .rotate_left(29)
-                .wrapping_add(0x9e37_79b9_7f4a_7c15),
-        )
-    }
-
-    fn float(self, x: f64) -> Mix {
-        self.word(float::bits::bits_of(x))
-    }
-
-    fn flag(self, on: bool) -> Mix {
-        self.word(u64::from(on))
-    }
-
-    fn reading(self, x: Reading) -> Mix {
-        x.map_or(self.word(0).word(0), |v| self.word(1).float(v))
-    }
-
-    fn trying(self, y: Option<Try>) -> Mix {
-        y.map_or(self.word(0).word(0).word(0), |t| {
-            self.word(u64::from(t.rung.0) + 1)
-                .word(u64::from(t.calls))
-                .word(u64::from(t.frames))
-        })
-    }
-
-    fn mark(self, m: Option<Rung>) -> Mix {
-        self.word(m.map_or(0, |r| u64::from(r.0) + 1))
-    }
-
-    fn rated(self, x: Result<f64, Refusal>) -> Mix {
-        x.map_or(self.word(0), |v| self.float(v))
-    }
-
-    // The state but for the rungs.
-    fn core(self, c: &Core) -> Mix {
-        self.word(u64::from(c.place.0))
-            .trying(c.trying)
-            .reading(c.snr)
-            .reading(c.echo)
-            .float(c.offsets.floor)
-            .float(c.offsets.ofdm)
-            .flag(c.failed)
-            .mark(c.clean)
-    }
-
-    // One rung: its account, time, wait, value, estimate and `lossless`.
-    fn rung(self, k: &RateController, r: Rung) -> Mix {
-        let a = k.account(r);
-        self.float(a.bytes)
-            .float(a.air)
-            .float(a.frames)
-            .float(k.state.since(r))
-            .word(u64::from(k.state.wait(r)))
-            .rated(k.value(r))
-            .rated(k.estimate(r))
-            .float(k.lossless(r))
-    }
-}
-
-fn hash(k: &RateController) -> u64 {
-    let mut all = Mix(0xcbf2_9ce4_8422_2325).core(&k.state.core);
-    for r in 0..k.table.air.count {
-        all = all.rung(k, Rung(r));
-    }
-    all.0
-}
 
 // ---- reading a list
 // The head of a list: how many rungs, floor rungs and echo limits it has, and whether its air is wide. That is a bool, as the input has it and
@@ -232,7 +160,7 @@ impl fmt::Display for Tried {
 }
 
 // Writes a call's line. Of a refused call both marks are off.
-fn tell(rt: &impl Print, k: &RateController, reply: Reply) -> io::Result<()> {
+fn tell(rt: &impl Print, k: &RateController, reply: Reply, by_value: &Answer) -> io::Result<()> {
     let number = reply.err().map_or(0, |why| why.number());
     let marks = reply.unwrap_or_default();
     let choice = k.choice();
@@ -240,21 +168,23 @@ fn tell(rt: &impl Print, k: &RateController, reply: Reply) -> io::Result<()> {
     let ofdm = u32::from(k.refuses_ofdm());
     let ended = u32::from(marks.ended);
     let begun = u32::from(marks.begun);
-    let all = hash(k);
+    let all = Mix::START.answer(by_value).controller(k).hash();
     println!(rt; "{choice} {tried} {ofdm} {ended} {begun} {number} {all:016x}")
 }
 
-// Plays the calls that are next.
+// Plays the calls that are next, each by value and then in place.
 fn play_calls(
-    rt: &impl Print,
+    rt: &(impl Print + AllocGlobal),
     start: RateController,
     input: &mut Input,
     calls: u32,
 ) -> io::Result<()> {
     let mut player = Player::new(start);
     for _ in 0..calls {
-        let reply = question::event::play(&mut player, input.call());
-        tell(rt, player.controller(), reply)?;
+        let body = input.call();
+        let by_value = by_value::answer(rt, *player.controller(), body)?;
+        let reply = question::event::play(&mut player, body);
+        tell(rt, player.controller(), reply, &by_value)?;
     }
     Ok(())
 }

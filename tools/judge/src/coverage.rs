@@ -1,6 +1,7 @@
 //! What lists of calls covered, told from the controller before and after each call: a comparison that never saw a try
 //! lost, or a rung ruled out, would say little.
 
+use crate::asked::Asked;
 use crate::counts::{self, Count, Refusals, named, refused};
 use crate::event::{Event, Frame, KINDS};
 use crate::limits::MOST_ENTRIES;
@@ -129,6 +130,8 @@ pub struct Coverage {
     verdicts: [Refusals; 7],
     marks: [u64; 4],
     seen: [u64; NAMES.len()],
+    /// What was asked, of lists that `trace` plays.
+    pub asked: Asked,
 }
 
 impl Default for Coverage {
@@ -138,6 +141,7 @@ impl Default for Coverage {
             verdicts: [[0; 15]; 7],
             marks: [0; 4],
             seen: [0; NAMES.len()],
+            asked: Asked::default(),
         }
     }
 }
@@ -380,6 +384,7 @@ impl Coverage {
     pub fn counts(&self) -> Vec<Count> {
         let mut all = refused("table", &TABLES, &self.tables);
         all.extend(self.calls());
+        all.extend(self.asked.counts());
         all
     }
 
@@ -414,6 +419,7 @@ impl Coverage {
         counts::add(&mut self.tables, &other.tables);
         counts::add(&mut self.marks, &other.marks);
         counts::add(&mut self.seen, &other.seen);
+        self.asked.add(&other.asked);
         for (own, other) in self.verdicts.iter_mut().zip(&other.verdicts) {
             counts::add(own, other);
         }
@@ -435,7 +441,7 @@ fn allowed_values(rate: &RateController, end: usize) -> Vec<f64> {
 }
 
 /// Whether two values are the greatest.
-fn tied(values: &[f64]) -> bool {
+pub(crate) fn tied(values: &[f64]) -> bool {
     let greatest = values.iter().copied().fold(f64::NEG_INFINITY, f64::max);
     let ties = values.iter().filter(|&&value| value == greatest);
     ties.count() > 1

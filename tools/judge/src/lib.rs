@@ -1,6 +1,7 @@
 //! What the judge's programs share: the source's controller in two variants, document 01's stand-ins read apart from
 //! the proved code, inputs by class, and comparison bit for bit.
 
+pub mod asked;
 pub mod bits;
 pub mod branches;
 pub mod counts;
@@ -16,9 +17,11 @@ pub mod oracle;
 pub mod paper;
 pub mod program;
 pub mod random;
+pub mod record;
 pub mod standin;
 pub mod table;
 pub mod trace;
+pub mod words;
 
 use std::ffi::OsString;
 use std::path::PathBuf;

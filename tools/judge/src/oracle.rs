@@ -1,5 +1,5 @@
 //! The Rust's controller behind document 01's refusals 6 to 9 and marks, which the Rust lacks: written from the
-//! document's sentences. What a call does is the Rust's alone.
+//! document's sentences. What a call does, and what it reads, is the Rust's alone.
 
 use crate::event::{Event, Frame};
 use crate::limits::{
@@ -62,6 +62,41 @@ impl Oracle {
     /// Whether OFDM is refused on this path; every rung that is not floor answers alike.
     pub fn ofdm_refused(&self) -> bool {
         self.rate.refuses(self.rate.seen_floor_modes())
+    }
+
+    /// What the rungs are ranked by. "rung not in the table (a frame, `value`, `estimate`)": 6, where the Rust panics.
+    pub fn value(&self, rung: usize) -> Result<f64, u32> {
+        self.known(rung).map(|rung| self.rate.value(rung))
+    }
+
+    pub fn estimate(&self, rung: usize) -> Result<f64, u32> {
+        self.known(rung).map(|rung| self.rate.estimate(rung))
+    }
+
+    fn known(&self, rung: usize) -> Result<usize, u32> {
+        if rung < self.rungs { Ok(rung) } else { Err(6) }
+    }
+
+    /// The rung to start at from an SNR: 8 where that is outside its limits.
+    pub fn first_mode(&self, snr_db: f64) -> Result<usize, u32> {
+        if DB.hold(snr_db) {
+            Ok(self.rate.first_mode(snr_db))
+        } else {
+            Err(8)
+        }
+    }
+
+    /// The Rust's `observe`, which is refused as an SNR call is, and touches no try.
+    pub fn observe(&mut self, snr_db: Option<f64>) -> Answer {
+        let verdict = within(DB.hold_reading(snr_db));
+        if verdict == 0 {
+            self.rate.observe(snr_db);
+        }
+        Answer {
+            verdict,
+            ended: false,
+            begun: false,
+        }
     }
 
     /// The number that the call is refused with, or 0.
@@ -206,6 +241,26 @@ mod tests {
         bursts[32] = 1001;
         assert_eq!(prices_verdict([0.0; 3], &bursts), 8);
         assert_eq!(prices_verdict([0.0; 3], &[1000; 32]), 0);
+    }
+
+    #[test]
+    fn reads_are_refused() {
+        let oracle = wide();
+        assert_eq!((oracle.value(20), oracle.estimate(20)), (Err(6), Err(6)));
+        assert!(oracle.value(19).is_ok() && oracle.estimate(19).is_ok());
+        let past = 200.0_f64.next_up();
+        assert_eq!(oracle.first_mode(past), Err(8));
+        assert_eq!(oracle.first_mode(200.0), Ok(19));
+    }
+
+    #[test]
+    fn observe_takes_a_reading_within_the_limits() {
+        let mut oracle = wide();
+        assert_eq!(oracle.observe(Some(f64::NAN)).verdict, 8);
+        assert_eq!(oracle.observe(None).verdict, 0);
+        assert_eq!(oracle.rate.snr_db(), None);
+        assert_eq!(oracle.observe(Some(7.0)).verdict, 0);
+        assert_eq!(oracle.rate.snr_db(), Some(7.0));
     }
 
     #[test]

@@ -1,12 +1,11 @@
-//! The proved program `trace`, run on lists of calls.
+//! A proved program, `trace` or `tables`, run on an input.
 
-use std::ffi::OsString;
 use std::io::{Read, Write};
 use std::path::{Path, PathBuf};
 use std::process::{Command, Stdio};
 
-/// Where the program is when `TRACE` is not set.
-const PLACE: &str = concat!(env!("CARGO_MANIFEST_DIR"), "/../../crates/trace/out/trace");
+/// The crates' folder.
+const CRATES: &str = concat!(env!("CARGO_MANIFEST_DIR"), "/../../crates");
 
 /// What the program answered, and what went wrong with it, if anything.
 pub struct Answered {
@@ -14,15 +13,17 @@ pub struct Answered {
     pub failure: Option<String>,
 }
 
-/// The program's path: `TRACE`, else where the toolchain puts it. Ends this program with status 2 if it is not there.
-pub fn find() -> PathBuf {
-    let given = std::env::var_os("TRACE").unwrap_or_else(|| OsString::from(PLACE));
-    let path = PathBuf::from(given);
+/// The path of the program of that name: the variable that is its name in capitals, else where the toolchain puts it.
+/// Ends this program with status 2 if it is not there.
+pub fn find(name: &str) -> PathBuf {
+    let variable = name.to_uppercase();
+    let place = || format!("{CRATES}/{name}/out/{name}").into();
+    let path = PathBuf::from(std::env::var_os(&variable).unwrap_or_else(place));
     match path.canonicalize() {
         Ok(found) if found.is_file() => found,
         _ => {
             let place = path.display();
-            eprintln!("no program `trace` at {place}; build it, or set TRACE to its path");
+            eprintln!("no program `{name}` at {place}; build it, or set {variable} to its path");
             std::process::exit(2);
         }
     }

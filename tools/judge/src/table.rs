@@ -91,6 +91,21 @@ impl Table {
         }
     }
 
+    /// The number that the front by payload is refused with, or 0: every frame time is 1, and two columns count.
+    pub fn payload_refusal(&self) -> u32 {
+        self.with_one_time().front_refusal()
+    }
+
+    /// The table with the same frame time for each threshold.
+    fn with_one_time(&self) -> Self {
+        Self {
+            thresholds: self.thresholds.clone(),
+            payload: self.payload.clone(),
+            frame_s: vec![1.0; self.rungs()],
+            ..Self::default()
+        }
+    }
+
     fn front_lengths(&self) -> [usize; 3] {
         let (thresholds, payload) = (self.thresholds.len(), self.payload.len());
         [thresholds, payload, self.frame_s.len()]
@@ -130,6 +145,14 @@ impl Table {
     /// The Rust's front of a table with three columns of one length.
     pub fn rust_front(&self) -> Vec<usize> {
         rate::usable_modes_by_rate(&self.thresholds, &sizes(&self.payload), &self.frame_s)
+    }
+
+    /// The Rust's front by payload, of two columns of one length; the document's words must give it too.
+    pub fn rust_payload_front(&self) -> Vec<usize> {
+        let front = rate::usable_modes_of(&self.thresholds, &sizes(&self.payload));
+        let read = self.with_one_time().front();
+        assert_eq!(front, read, "the Rust and document 01 differ");
+        front
     }
 
     /// The Rust's controller for a table that is not refused.

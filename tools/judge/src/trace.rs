@@ -1,10 +1,12 @@
 //! Lists of calls in the form that the program `trace` reads, and the lines that it must answer: choice, try, refusal
-//! of OFDM, marks and verdict in full, and the whole state after each call as a hash.
+//! of OFDM, marks and verdict in full, and a hash of what the call by value says and leaves, of the state after the call,
+//! and of what is read of it.
 
 use crate::coverage::Coverage;
 use crate::event::{Event, reading};
 use crate::oracle::{Answer, Oracle};
 use crate::table::Table;
+use crate::words::Words;
 use std::fmt::Write;
 
 /// The most that `trace` reads.
@@ -52,14 +54,19 @@ impl List {
         coverage.table(0);
         let mut lines = format!("table places {}\n", oracle.rate.modes().len());
         for event in &self.events {
+            let observed = Words::observed(&oracle, event);
+            coverage.asked.by_value(&oracle, event);
             let answer = coverage.take(&mut oracle, event);
-            line(&mut lines, &oracle, answer);
+            coverage.asked.reads(&oracle);
+            let mut words = observed.unwrap_or_else(|| Words::left(answer, &oracle));
+            words.controller(&oracle);
+            line(&mut lines, &oracle, answer, &words);
         }
         lines
     }
 }
 
-fn line(lines: &mut String, oracle: &Oracle, answer: Answer) {
+fn line(lines: &mut String, oracle: &Oracle, answer: Answer, words: &Words) {
     let tried = oracle.rate.probing();
     let tried = tried.map_or_else(|| "-".to_owned(), |rung| rung.to_string());
     writeln!(
@@ -70,80 +77,22 @@ fn line(lines: &mut String, oracle: &Oracle, answer: Answer) {
         u8::from(answer.ended),
         u8::from(answer.begun),
         answer.verdict,
-        hash(&words(oracle))
+        words.hash()
     )
     .expect("a string takes any line");
 }
 
-fn hash(words: &[u64]) -> u64 {
-    let step = |h: u64, word: &u64| {
-        let turned = (h ^ word).rotate_left(29);
-        turned.wrapping_add(0x9e37_79b9_7f4a_7c15)
-    };
-    words.iter().fold(0xcbf2_9ce4_8422_2325, step)
-}
-
-/// The whole state, in the order of the hash.
-pub fn words(oracle: &Oracle) -> Vec<u64> {
-    let rate = &oracle.rate;
-    let mut words = vec![
-        rate.seen_index() as u64,
-        one_more(rate.probing()),
-        rate.seen_probe_tries() as u64,
-        rate.seen_try_frames() as u64,
-    ];
-    for value in [rate.seen_snr_db(), rate.seen_echo()] {
-        words.extend([u64::from(value.is_some()), value.map_or(0, bits)]);
-    }
-    words.extend(rate.family_offsets().map(bits));
-    words.push(rate.seen_ofdm_failed().into());
-    words.push(one_more(rate.seen_clean_at()));
-    for rung in 0..oracle.rungs {
-        let account = rate.account(rung);
-        words.extend([account.bytes, account.air_s, account.frames].map(bits));
-        words.push(bits(rate.seen_since(rung)));
-        words.push(rate.seen_wait(rung) as u64);
-        let values = [rate.value(rung), rate.estimate(rung), rate.lossless(rung)];
-        words.extend(values.map(bits));
-    }
-    words
-}
-
-/// A rung plus 1, or 0 for none.
-fn one_more(rung: Option<usize>) -> u64 {
-    rung.map_or(0, |rung| rung as u64 + 1)
-}
-
-/// A value's bits, one pattern for every NaN.
-const fn bits(x: f64) -> u64 {
-    if x.is_nan() {
-        0x7ff8_0000_0000_0000
-    } else {
-        x.to_bits()
-    }
-}
-
-/// The state after the last call of a list, word by word with names, to find what differs.
+/// What is hashed after the last call of a list, word by word with names, to find what differs.
 pub fn named_words(list: &List) -> String {
     let Ok(mut oracle) = Oracle::new(&list.table, list.wide) else {
         return String::new();
     };
-    list.events.iter().for_each(|event| {
-        oracle.take(event);
-    });
-    let state = [
-        "place", "tried", "calls", "frames", "snr", "=", "echo", "=", "floor", "OFDM", "failed",
-        "clean",
-    ];
-    let rung = [
-        "bytes", "air", "frames", "since", "wait", "value", "estimate", "lossless",
-    ];
-    let names = state.into_iter().chain(rung.into_iter().cycle());
-    let named = names.zip(words(&oracle)).enumerate();
-    let text = named.map(|(at, (name, word))| {
-        let new_rung = at >= state.len() && (at - state.len()).is_multiple_of(rung.len());
-        let start = if new_rung { "\n    " } else { " " };
-        format!("{start}{name} {word:x}")
-    });
-    text.collect()
+    let mut words = Words::default();
+    for event in &list.events {
+        let observed = Words::observed(&oracle, event);
+        let answer = oracle.take(event);
+        words = observed.unwrap_or_else(|| Words::left(answer, &oracle));
+        words.controller(&oracle);
+    }
+    words.named()
 }

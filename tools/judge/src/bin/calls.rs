@@ -57,7 +57,7 @@ struct Wanted {
 impl Run {
     fn new() -> Self {
         Self {
-            program: program::find(),
+            program: program::find("trace"),
             input: Vec::new(),
             wanted: Vec::new(),
             coverage: Coverage::default(),

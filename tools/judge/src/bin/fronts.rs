@@ -1,12 +1,17 @@
 //! Compares the proved front with the Rust's, and the proved refusals of tables with document 01's causes 1 to 5:
-//! `fronts [SEED] [SIZE]`, about SIZE tables, each given to both calls. Ends with status 1 if any differ.
+//! `fronts [SEED] [SIZE]`, about SIZE tables, each given to both calls of the library, and in batches to the proved
+//! program `tables` (TABLES: its path), which answers the fronts of all its calls. Ends with status 1 if any differ, 2
+//! if there is no `tables`.
 
 use judge::counts::{self, Count, Refusals, named, refused};
 use judge::draw::tables;
+use judge::program::{self, Answered};
 use judge::random::Random;
+use judge::record;
 use judge::table::Table;
 use judge::{arguments, ended};
 use std::fmt::Display;
+use std::path::PathBuf;
 
 #[link(name = "exports", kind = "static")]
 unsafe extern "C" {
@@ -43,6 +48,7 @@ const SHOWN: u64 = 10;
 /// What a table, and a front alone, can be answered: 0 and refusals.
 const TABLES: [usize; 6] = [0, 1, 2, 3, 4, 5];
 const FRONTS: [usize; 4] = [0, 1, 2, 3];
+const BY_PAYLOAD: [&str; 2] = ["by payload: as by rate", "by payload: another front"];
 const TIES: [&str; 3] = ["rungs of equal worth", "of equal threshold", "of both"];
 
 fn main() {
@@ -50,12 +56,14 @@ fn main() {
     println!("fronts: seed {seed}, size {size}");
     let mut run = Run::new(seed);
     run.all(size as usize);
+    run.batch();
     run.print();
     ended("fronts", run.compared, run.differences);
 }
 
 /// A run over every class: where it is, and what it found.
 struct Run {
+    program: PathBuf,
     random: Random,
     compared: u64,
     differences: u64,
@@ -63,6 +71,18 @@ struct Run {
     covered: Tally,
     /// How many fronts had each size.
     sizes: [u64; 33],
+    /// The batch that is being filled for `tables`.
+    batch: Batch,
+    /// Tables that went to it, and those that no record holds.
+    recorded: u64,
+    too_long: u64,
+}
+
+/// What is given to the program `tables` at once.
+#[derive(Default)]
+struct Batch {
+    input: Vec<u8>,
+    tables: Vec<Table>,
 }
 
 /// What a class covered.
@@ -72,6 +92,9 @@ struct Tally {
     verdicts: Refusals,
     /// The verdicts on the front alone.
     fronts: Refusals,
+    /// The verdicts on the front by payload, and whether it is the same as by rate or another one.
+    payloads: Refusals,
+    by_payload: [u64; 2],
     /// Tables not refused with rungs of equal worth, equal threshold, and both at once.
     ties: [u64; 3],
 }
@@ -79,11 +102,15 @@ struct Tally {
 impl Run {
     fn new(seed: u64) -> Self {
         Self {
+            program: program::find("tables"),
             random: Random::new(seed),
             compared: 0,
             differences: 0,
             covered: Tally::default(),
             sizes: [0; 33],
+            batch: Batch::default(),
+            recorded: 0,
+            too_long: 0,
         }
     }
 
@@ -112,11 +139,15 @@ impl Run {
         for table in tables {
             self.front(&table, &mut tally);
             self.refusal(&table, &mut tally);
+            count_payload(&table, &mut tally);
+            self.record(table);
             tally.tables += 1;
         }
         line(name, &tally);
         counts::add(&mut self.covered.verdicts, &tally.verdicts);
         counts::add(&mut self.covered.fronts, &tally.fronts);
+        counts::add(&mut self.covered.payloads, &tally.payloads);
+        counts::add(&mut self.covered.by_payload, &tally.by_payload);
         counts::add(&mut self.covered.ties, &tally.ties);
     }
 
@@ -142,7 +173,7 @@ impl Run {
             let out = &out[..written.map_or(0, |at| at + 1)];
             format!("usable_modes: {status} {out:?}, wanted {wanted}")
         };
-        self.count(right, wrong, table);
+        self.count(right, wrong, Some(table));
     }
 
     /// Compares the refusal of the whole table.
@@ -156,15 +187,56 @@ impl Run {
             let limits = hex(&limits);
             format!("table_refusal: {status}, wanted {refusal}; known {known:?} limits {limits}")
         };
-        self.count(right, wrong, table);
+        self.count(right, wrong, Some(table));
     }
 
-    fn count(&mut self, right: bool, wrong: impl Fn() -> String, table: &Table) {
+    /// Puts a table into the batch, after running a batch that has no more room. A few have more entries in a column
+    /// than a record holds.
+    fn record(&mut self, table: Table) {
+        if !record::fits(&table) {
+            self.too_long += 1;
+            return;
+        }
+        let bytes = record::record(&table);
+        if self.batch.input.len() + bytes.len() > record::MOST_INPUT {
+            self.batch();
+        }
+        self.recorded += 1;
+        self.batch.input.extend(bytes);
+        self.batch.tables.push(table);
+    }
+
+    /// Runs the batch: `tables` answers a first line that is of no table, and a line for each.
+    fn batch(&mut self) {
+        let Batch { input, tables } = std::mem::take(&mut self.batch);
+        let Answered { output, failure } = program::answered(&self.program, &input);
+        let text = String::from_utf8_lossy(&output);
+        let mut given = text.split_inclusive('\n');
+        self.answer(&record::first_line(), given.next(), None);
+        for table in &tables {
+            self.answer(&record::line(table), given.next(), Some(table));
+        }
+        let more = given.count();
+        if failure.is_some() || more > 0 {
+            self.differences += 1;
+            println!("differs: tables ended with {failure:?}, and {more} more lines");
+        }
+    }
+
+    /// Compares a line of the program `tables`.
+    fn answer(&mut self, wanted: &str, given: Option<&str>, table: Option<&Table>) {
+        let given = given.unwrap_or("(no line)\n");
+        let wrong = || format!("tables: {}, wanted {}", given.trim_end(), wanted.trim_end());
+        self.count(wanted == given, wrong, table);
+    }
+
+    fn count(&mut self, right: bool, wrong: impl Fn() -> String, table: Option<&Table>) {
         self.compared += 1;
         if !right {
             self.differences += 1;
             if self.differences <= SHOWN {
-                println!("differs: {}\n  {}", wrong(), written(table));
+                let table = table.map_or_else(|| "(no table)".to_owned(), written);
+                println!("differs: {}\n  {table}", wrong());
             }
         }
     }
@@ -174,9 +246,13 @@ impl Run {
         let mut all = refused("table", &TABLES, &covered.verdicts);
         all.extend(refused("front", &FRONTS, &covered.fronts));
         all.extend(named(&TIES, &covered.ties));
+        all.extend(refused("by payload", &FRONTS, &covered.payloads));
+        all.extend(named(&BY_PAYLOAD, &covered.by_payload));
+        all.extend(named(&["put to tables"], &[self.recorded]));
         let sizes = self.sizes.iter().enumerate();
         all.extend(sizes.map(|(n, count)| -> Count { (format!("front of {n}"), *count) }));
         counts::print(&all);
+        println!("not put to tables, columns too long: {}", self.too_long);
         let mut refusals = covered.verdicts;
         counts::add(&mut refusals, &covered.fronts);
         counts::covered("fronts", &all, &refusals);
@@ -251,6 +327,16 @@ fn echo_column(random: &mut Random, echo: &[Option<f64>]) -> (Vec<u8>, Vec<f64>)
         _ => {}
     }
     (known, limits)
+}
+
+/// Counts what the front by payload is.
+fn count_payload(table: &Table, tally: &mut Tally) {
+    let refusal = table.payload_refusal();
+    tally.payloads[refusal as usize] += 1;
+    if (refusal, table.front_refusal()) == (0, 0) {
+        let other = table.rust_payload_front() != table.rust_front();
+        tally.by_payload[usize::from(other)] += 1;
+    }
 }
 
 /// Counts a table with rungs of equal worth, of equal threshold, and of both.

@@ -2,17 +2,16 @@
 //! `tables` reads to INPUT, and what it must answer to EXPECTED. The seed only draws the last tables of the sample.
 
 use judge::draw::tables;
-use judge::event::reading;
 use judge::limits::{AIR_S, MOST_BYTES, MOST_ENTRIES, SHARE};
 use judge::random::Random;
+use judge::record::{self, MOST_COLUMN};
 use judge::seed_and_paths;
 use judge::table::Table;
 use std::fs;
 use std::io;
 
-/// The most that `tables` reads, and the most entries of a column that it takes.
+/// The most bytes of the sample.
 const MOST_INPUT: usize = 65_536;
-const MOST_COLUMN: usize = 40;
 /// How many tables of each class are drawn.
 const DRAWN: usize = 2;
 
@@ -57,8 +56,8 @@ const FAULTS: [fn(&mut Table); 5] = [
 fn main() -> io::Result<()> {
     let (seed, [input, expected]) = seed_and_paths(["path for the input", "path for the answers"]);
     let sample = sample(&mut Random::new(seed));
-    let records: Vec<u8> = sample.iter().flat_map(record).collect();
-    let lines: String = sample.iter().map(line).collect();
+    let records: Vec<u8> = sample.iter().flat_map(record::record).collect();
+    let lines = record::first_line() + &sample.iter().map(record::line).collect::<String>();
     let (bytes_in, bytes_out) = (records.len(), lines.len());
     assert!(bytes_in <= MOST_INPUT, "the sample has {bytes_in} bytes");
     fs::write(input, records)?;
@@ -88,7 +87,7 @@ fn sample(random: &mut Random) -> Vec<Table> {
 fn drawn(random: &mut Random, draw: fn(&mut Random) -> Table) -> Table {
     loop {
         let table = draw(random);
-        if columns(&table).iter().all(|&n| n <= MOST_COLUMN) {
+        if record::fits(&table) {
             return table;
         }
     }
@@ -157,78 +156,22 @@ fn changed(rungs: usize, change: impl FnOnce(&mut Table)) -> Table {
     table
 }
 
-/// How many entries each column has.
-fn columns(table: &Table) -> [usize; 5] {
-    [
-        table.thresholds.len(),
-        table.payload.len(),
-        table.capacity.len(),
-        table.frame_s.len(),
-        table.echo.len(),
-    ]
-}
-
-/// A table in the form that `tables` reads: the columns' lengths, a byte 0, the floor rungs, and the columns.
-fn record(table: &Table) -> Vec<u8> {
-    let mut bytes: Vec<u8> = columns(table).map(|n| n as u8).to_vec();
-    bytes.push(0);
-    bytes.extend(table.floor_modes.to_le_bytes());
-    bytes.extend(table.thresholds.iter().flat_map(|x| x.to_le_bytes()));
-    bytes.extend(table.payload.iter().flat_map(|n| n.to_le_bytes()));
-    bytes.extend(table.capacity.iter().flat_map(|n| n.to_le_bytes()));
-    bytes.extend(table.frame_s.iter().flat_map(|x| x.to_le_bytes()));
-    bytes.extend(table.echo.iter().flat_map(|&limit| reading(limit)));
-    bytes
-}
-
-/// The line that `tables` must answer: the table's front or refusal, and the same of the front alone.
-fn line(table: &Table) -> String {
-    let usable = match table.front_refusal() {
-        0 => rungs(&rust_front(table)),
-        number => format!(" {number}"),
-    };
-    match table.refusal() {
-        0 => format!("front{usable} usable{usable}\n"),
-        number => format!("refused {number} usable{usable}\n"),
-    }
-}
-
-/// The Rust's front, which the document's words must give too.
-fn rust_front(table: &Table) -> Vec<usize> {
-    let front = table.rust_front();
-    assert_eq!(front, table.front(), "the Rust and document 01 differ");
-    front
-}
-
-fn rungs(front: &[usize]) -> String {
-    front.iter().map(|rung| format!(" {rung}")).collect()
-}
-
-/// Prints how many tables are accepted, and refused with each number, whole and by the front alone.
+/// Prints how many tables are accepted, and refused with each number, whole, by the front alone, and by payload.
 fn covered(sample: &[Table]) {
-    let (mut whole, mut front) = ([0; 6], [0; 4]);
+    let (mut whole, mut front, mut payload) = ([0; 6], [0; 4], [0; 4]);
     for table in sample {
         whole[table.refusal() as usize] += 1;
         front[table.front_refusal() as usize] += 1;
+        payload[table.payload_refusal() as usize] += 1;
     }
     println!("tables accepted, and refused with 1 to 5: {whole:?}");
     println!("fronts answered, and refused with 1 to 3: {front:?}");
+    println!("fronts by payload, and refused with 1 to 3: {payload:?}");
 }
 
 #[cfg(test)]
 mod tests {
     use super::*;
-
-    #[test]
-    fn recorded() {
-        let table = Table::header();
-        assert_eq!(line(&table), "front 0 1 usable 0 1\n");
-        let bytes = record(&table);
-        assert_eq!(bytes[..10], [2, 2, 2, 2, 0, 0, 1, 0, 0, 0]);
-        assert_eq!(bytes[18..26], (-1.0_f64).to_le_bytes());
-        assert_eq!(bytes[26..30], 75_u32.to_le_bytes());
-        assert_eq!(bytes.len(), 10 + 2 * 24);
-    }
 
     #[test]
     fn a_fault_for_each_number() {
