@@ -19,14 +19,15 @@
 extern "C" {
 #endif
 
-/* Why a call is refused: it returns minus the number. Of what it was handed nothing has changed then. */
+/* Why a call is refused: it returns minus the number, and of what it was handed nothing has changed. 6, 7 and 9 no call returns,
+   but a line of a sheet may have them, and 8. */
 enum turmexol_refusal {
     TURMEXOL_COLUMN_SIZE = 1,      /* a table column has 0 or over 32 entries (echo column: over 32) */
     TURMEXOL_COLUMNS_DIFFER = 2,   /* threshold, payload, capacity, frame-time columns differ in length */
     TURMEXOL_TABLE_VALUE = 3,      /* a table value outside its limits */
     TURMEXOL_FLOOR_COUNT = 4,      /* more floor rungs than rungs */
     TURMEXOL_EMPTY_FRONT = 5,      /* the front is empty */
-    TURMEXOL_UNKNOWN_RUNG = 6,     /* a rung that is not in the table; in a sheet's line, as 7 and 9 */
+    TURMEXOL_UNKNOWN_RUNG = 6,     /* a rung that is not in the table */
     TURMEXOL_TOO_MANY_FRAMES = 7,  /* over 256 frames */
     TURMEXOL_OUTSIDE_LIMITS = 8,   /* a reading, air, capacity, price, gap, burst count or argument outside its limits */
     TURMEXOL_TOO_MANY_BURSTS = 9,  /* over 32 burst counts */
@@ -41,14 +42,14 @@ enum turmexol_refusal {
 #define TURMEXOL_QUESTION_BYTES 65536
 #define TURMEXOL_EVENTS 1000
 
-/* No sheet is longer, so a call of paper_sheet with this room is not refused with 13. An event's line has its number, the
-   choice, the tried rung, three flags and the LF, each behind a space but the first and the last: 13 bytes and the number's
-   digits, as no rung of the two airs has over two digits; a refused event's line is shorter. The numbers 1 to 1,000 have
-   9 + 180 + 2,700 + 4 = 2,893 digits, and 1,000 lines 13,000 other bytes. */
+/* No sheet is longer: that a call of paper_sheet with this room is never refused with 13 is part of what it promises (EnoughRoom
+   of exports/specs/Room.antt). An event's line has its number, the choice, the tried rung, three flags and the LF, each behind
+   a space but the first and the last: 13 bytes and the number's digits, as no rung on the two airs' fronts has over two digits,
+   and a refused event's line is shorter. 1,000 lines have 13,000 such bytes, and the numbers 1 to 1,000 have 2,893 digits. */
 #define TURMEXOL_SHEET_BYTES 15893
 
-/* No call takes more of the stack, what it calls included: the most that bindings/c/stack.c saw is 44,376 bytes, of paper_mark,
-   and by the machine code (its frames along the deepest way down) it is the same. */
+/* No call takes more of the stack, with all that it calls. Measured, on x86-64: bindings/c/stack.c saw 44,312 bytes at most, of
+   paper_mark on a sample paper; in the machine code the frames along its deepest way down add up to 44,352, whatever the paper. */
 #define TURMEXOL_STACK 49152
 
 /* The chance that a frame decodes (crate half). 0, and the chance in *p; or minus the number of the refusal
