@@ -1,5 +1,5 @@
--- No rung on the two airs' fronts has over two digits, and a tried rung is one of the front: so a line has at most 13 bytes beside its event's number. Over 1,000
--- lines the numbers have 2,893 digits, and fewer lines take no more. Assumes nothing.
+-- No rung on the two airs' fronts has over two digits, and a tried rung is one of the front: so a line has at most 13 bytes beside its event's number.
+-- Over 1,000 lines the numbers have 2,893 digits, and fewer lines take no more. Assumes nothing.
 use Rattle.std.specs.Prelude.{◌≡◌, ℕ, zero, suc, ◌+◌, ◌/◌, ◌<◌, ◌≤◌, true, false, ◌&&◌, ◌==◌, List, [], ◌∷◌, length, get_or, ltb, eqb, T, Float, Option, None, Some, Ok, Err}
 use mathlib.Core.Path.{refl, ap, sym, subst}
 use mathlib.Core.Logic.{◌⊎◌, inl, inr}
