@@ -3,7 +3,7 @@ use Rattle.std.specs.Prelude.{◌≡◌, ℕ, ◌≤◌, List, length}
 use Rattle.question.specs.File.{file_verdict}
 use Rattle.paper.specs.Sheet.{sheet_verdict}
 
--- 13 bytes a line beside its event's number, of "over 1,000 events" none: 13,000; and the numbers 1 to 1,000 have 2,893 digits
+-- of at most 1,000 events: 13 bytes a line beside the event's number, and the numbers 1 to 1,000 have 2,893 digits
 abbrev pub sheet_bytes : ℕ
 sheet_bytes = 15893
 
