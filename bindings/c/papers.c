@@ -241,7 +241,7 @@ static void frame(uint8_t flags)
     set(&paper, 21, 0x40);
 }
 
-static void check_bodies(void)
+static void check_frames(void)
 {
     for (uint8_t flags = 0; flags < 8; flags++) {
         frame(flags);
@@ -254,16 +254,26 @@ static void check_bodies(void)
     CHECK(prints(&paper, "1 refused 6\n"));
     one(&paper, 1, 10 + 12 * 257);
     CHECK(prints(&paper, "1 refused 7\n"));
+}
 
-    for (uint8_t byte = 0; byte < 3; byte++)
-        for (size_t at = 1; at < 3; at++) {
-            one(&paper, 5, 3);
-            set(&paper, at, byte);
-            CHECK(byte < 2 ? prints(&paper, "1 0 - 0 0 0\n") : refused(&paper, TURMEXOL_FILE_BODY));
-        }
+/* A family is 0 or 1, the own one and the other. */
+static void check_families(size_t at)
+{
+    for (uint8_t byte = 0; byte < 2; byte++) {
+        one(&paper, 5, 3);
+        set(&paper, at, byte);
+        CHECK(prints(&paper, "1 0 - 0 0 0\n"));
+    }
+    set(&paper, at, 2);
+    CHECK(refused(&paper, TURMEXOL_FILE_BODY));
+}
+
+/* A missing reading has no bits, -0.0's included; and there is no kind 8. */
+static void check_readings(void)
+{
     one(&paper, 4, 10);
     CHECK(prints(&paper, "1 0 - 0 0 0\n"));
-    set(&paper, 9, 0x80); /* -0.0's bits, of a missing reading */
+    set(&paper, 9, 0x80);
     CHECK(refused(&paper, TURMEXOL_FILE_BODY));
     set(&paper, 1, 1);
     CHECK(prints(&paper, "1 0 - 0 0 0\n"));
@@ -281,5 +291,8 @@ void check_papers(const char *folder)
     check_four_lines(folder);
     check_sizes();
     check_events();
-    check_bodies();
+    check_frames();
+    check_families(1);
+    check_families(2);
+    check_readings();
 }
