@@ -10,6 +10,8 @@ const SOURCES: [&str; 2] = ["../../../shared/docs/src", "../../docs/src"];
 const EXPORTS: &str = "../../crates/exports/out";
 /// Where that of the calls by value is, when neither `BY_VALUE_DIR` nor `EXPORTS_DIR` is set.
 const BY_VALUE: &str = "../../crates/by_value/out";
+/// Where that of the half-power and the exponential is, when neither `PROBE_DIR` nor `EXPORTS_DIR` is set.
+const PROBE: &str = "../../crates/probe/out";
 /// The link layer's files within the source.
 const LINK: &str = "core/aether-link/src";
 /// The read-only view of a controller's private state that every copy gets.
@@ -34,6 +36,7 @@ fn main() {
     println!("cargo:rerun-if-env-changed=RATE_SRC");
     println!("cargo:rerun-if-env-changed=EXPORTS_DIR");
     println!("cargo:rerun-if-env-changed=BY_VALUE_DIR");
+    println!("cargo:rerun-if-env-changed=PROBE_DIR");
     println!("cargo:rerun-if-changed=build.rs");
 }
 
@@ -53,9 +56,11 @@ fn source(here: &Path) -> PathBuf {
 fn libraries(here: &Path) {
     let exports = env::var_os("EXPORTS_DIR");
     let by_value = env::var_os("BY_VALUE_DIR").or_else(|| exports.clone());
+    let probe = env::var_os("PROBE_DIR").or_else(|| exports.clone());
     for (folder, name) in [
         (exports.unwrap_or_else(|| EXPORTS.into()), "libexports.a"),
         (by_value.unwrap_or_else(|| BY_VALUE.into()), "libby_value.a"),
+        (probe.unwrap_or_else(|| PROBE.into()), "libprobe.a"),
     ] {
         let folder = here.join(folder);
         println!("cargo:rustc-link-search=native={}", folder.display());

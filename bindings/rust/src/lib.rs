@@ -37,7 +37,7 @@ unsafe extern "C" {
     fn rate_decode_probability(snr_db: f64, threshold_db: f64, slope_db: f64, p: *mut f64) -> i64;
 }
 
-/// The output buffer of the program `sheet`: longer than any sheet, which has at most 1,000 lines of at most 17 bytes.
+/// The output buffer of the program `sheet`: longer than any sheet, as 15,893 bytes are always enough (turmexol.h says why).
 pub const BUFFER: usize = 32_768;
 
 /// The marks of a paper.

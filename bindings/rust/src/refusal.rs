@@ -5,6 +5,7 @@ use std::fmt;
 
 /// Why a call was turned away. Nothing that was lent to it has changed.
 #[derive(Clone, Copy, Debug, PartialEq, Eq, Hash)]
+#[non_exhaustive]
 pub enum Refusal {
     /// 1: a table column has 0 or over 32 entries (echo column: over 32).
     ColumnSize = 1,
@@ -38,7 +39,7 @@ pub enum Refusal {
 
 impl Refusal {
     /// Every cause, in the order of the numbers.
-    pub const ALL: [Refusal; 14] = [
+    pub const ALL: &[Refusal] = &[
         Refusal::ColumnSize,
         Refusal::ColumnsDiffer,
         Refusal::TableValue,
@@ -63,7 +64,8 @@ impl Refusal {
     /// The cause that a call's status tells of: minus its number. The calls are proved to return no other.
     pub(crate) fn of(status: i64) -> Refusal {
         Refusal::ALL
-            .into_iter()
+            .iter()
+            .copied()
             .find(|cause| status == -i64::from(cause.number()))
             .unwrap_or_else(|| panic!("status {status} is no refusal: another library is linked"))
     }

@@ -6,6 +6,8 @@ use turmexol::{BUFFER, Refusal, Score, decode_probability, mark, sheet};
 
 /// The sample papers' folder, from this one.
 const PAPERS: &str = "../../papers";
+/// The wide air's number.
+const WIDE: u32 = 1;
 /// A file without events, on the wide air.
 const NO_EVENTS: [u8; 8] = [0, 0, 0, 0, 1, 0, 0, 0];
 
@@ -87,6 +89,41 @@ fn with(question: &[u8], at: usize, byte: u8) -> Vec<u8> {
     assert_ne!(changed[at], byte, "nothing would change at {at}");
     changed[at] = byte;
     changed
+}
+
+/// A question file of these bodies, on the wide air.
+fn file_of(bodies: &[Vec<u8>]) -> Vec<u8> {
+    let count = bodies.len() as u32;
+    let mut file = [count.to_le_bytes(), WIDE.to_le_bytes()].concat();
+    let mut at = 8 + 8 * count;
+    for body in bodies {
+        let length = body.len() as u32;
+        file.extend([at.to_le_bytes(), length.to_le_bytes()].concat());
+        at += length;
+    }
+    file.extend(bodies.concat());
+    file
+}
+
+/// A body of this kind and length, whose other bytes are zero.
+fn body(kind: u8, length: usize) -> Vec<u8> {
+    let mut bytes = vec![0; length];
+    bytes[0] = kind;
+    bytes
+}
+
+/// The body of prices with so many burst counts.
+fn prices(counts: usize) -> Vec<u8> {
+    body(6, 25 + 2 * counts)
+}
+
+/// The file of one event is accepted, and its line is this.
+fn line_is(body: Vec<u8>, line: &str) {
+    let mut out = [0; BUFFER];
+    let question = file_of(&[body]);
+    assert_eq!(sheet(&question, &mut out), Ok(line.len()));
+    assert_eq!(str::from_utf8(&out[..line.len()]), Ok(line));
+    assert!(mark(&question, &[0]).is_ok());
 }
 
 #[test]
@@ -181,14 +218,45 @@ fn an_empty_slice_may_point_nowhere() {
 fn header_is_10() {
     refused(&[], 10);
     refused(&NO_EVENTS[..7], 10);
-    refused(&vec![0; 65_537], 10);
+    let long = file_of(&[prices(32_748)]);
+    assert_eq!(long.len(), 65_537);
+    refused(&long, 10);
     for air in [0, 3] {
         refused(&with(&NO_EVENTS, 4, air), 10);
     }
-    let mut many = NO_EVENTS;
-    many[..4].copy_from_slice(&1001_u32.to_le_bytes());
-    refused(&many, 10);
+    refused(&file_of(&vec![body(3, 5); 1_001]), 10);
     assert_eq!(sheet(&[], &mut []), Err(Refusal::FileHeader));
+}
+
+#[test]
+fn a_file_of_65_536_bytes_is_accepted() {
+    // burst counts of 0 are within their limit, and over 32 of them are turned away with 9
+    let question = file_of(&[prices(16_359), prices(16_372)]);
+    assert_eq!(question.len(), 65_536);
+    let wanted = b"1 refused 9\n2 refused 9\n";
+    let mut out = [0; BUFFER];
+    assert_eq!(sheet(&question, &mut out), Ok(wanted.len()));
+    assert!(out.starts_with(wanted));
+    let none = Score {
+        right: 0,
+        counted: 0,
+    };
+    assert_eq!(mark(&question, &[0, 0]), Ok(none));
+}
+
+#[test]
+fn a_thousand_events_are_accepted() {
+    // silences at the lowest place: the choice stays at rung 0
+    let question = file_of(&vec![body(3, 5); 1_000]);
+    let wanted: String = (1..=1_000).map(|n| format!("{n} 0 - 0 0 0\n")).collect();
+    let mut out = [0; BUFFER];
+    assert_eq!(sheet(&question, &mut out), Ok(wanted.len()));
+    assert!(&out[..wanted.len()] == wanted.as_bytes());
+    let all = Score {
+        right: 1_000,
+        counted: 1_000,
+    };
+    assert_eq!(mark(&question, &[0; 1_000]), Ok(all));
 }
 
 #[test]
@@ -212,6 +280,50 @@ fn bodies_are_12() {
     }
     // the last body is an SNR reading: its mark byte is neither 0 nor 1
     refused(&with(&question, 60, 2), 12);
+}
+
+/// The body of a frame at rung 0, 1 s long, with these flags; no SNR is known.
+fn frame(flags: u8) -> Vec<u8> {
+    let mut bytes = body(1, 14);
+    bytes[11] = flags;
+    bytes.extend(1.0_f64.to_le_bytes());
+    bytes
+}
+
+#[test]
+fn flags_are_0_to_7() {
+    for flags in 0..8 {
+        line_is(frame(flags), "1 0 - 0 0 0\n");
+    }
+    for flags in [8, 15, 255] {
+        refused(&file_of(&[frame(flags)]), 12);
+    }
+}
+
+#[test]
+fn families_are_0_or_1() {
+    for [own, other] in [[0, 0], [0, 1], [1, 0], [1, 1]] {
+        line_is(vec![5, own, other], "1 0 - 0 0 0\n");
+    }
+    for [own, other] in [[2, 0], [0, 2], [255, 1], [1, 255]] {
+        refused(&file_of(&[vec![5, own, other]]), 12);
+    }
+}
+
+#[test]
+fn a_missing_reading_has_no_bits() {
+    let minus_zero = (-0.0_f64).to_le_bytes();
+    for (kind, length) in [(1, 10), (2, 18), (4, 10)] {
+        line_is(body(kind, length), "1 0 - 0 0 0\n");
+        for (at, byte) in [(2, 1), (9, minus_zero[7])] {
+            let mut bytes = body(kind, length);
+            bytes[at] = byte;
+            refused(&file_of(&[bytes.clone()]), 12);
+            // the same bits of a reading that is not missing: a tiny number and -0.0
+            bytes[1] = 1;
+            line_is(bytes, "1 0 - 0 0 0\n");
+        }
+    }
 }
 
 #[test]

@@ -1,4 +1,5 @@
--- What `rate_usable_modes` and `rate_table_refusal` return, what the first leaves behind its pointer, and how the echo column is handed over. Definitions only.
+-- What `rate_usable_modes` and `rate_table_refusal` return, what the first leaves behind its pointer, and how the echo column is handed over.
+-- Definitions only.
 use Rattle.std.specs.Prelude.{◌&&◌, not, cond, List, ℕ, min, ltb, eqb, ℤ, pos, Float, length, get_or, take, None, Some, Result, Ok, Err}
 use Rattle.std.specs.Float.{nan}
 use Rattle.limits.specs.Readings.{Reading}

@@ -1,24 +1,9 @@
-// The half-power, the exponential and the logistic.
+// The logistic.
 ghost use Rattle.std.specs.Prelude.{◌≡◌};
-ghost use Rattle.half.specs.Power.{half};
-ghost use Rattle.half.specs.Logistic.{exp, probability};
+ghost use Rattle.half.specs.Logistic.{probability};
 ghost use Rattle.exports.specs.Numbers.{status_of, written_of};
 
 use crate::status::minus_number;
-
-#[unsafe(no_mangle)]
-pub extern "C" fn rate_half(t: f64) -> f64
-    ensures { result ≡ half t }
-{
-    half::power::half(t)
-}
-
-#[unsafe(no_mangle)]
-pub extern "C" fn rate_exp(y: f64) -> f64
-    ensures { result ≡ exp y }
-{
-    half::logistic::exp(y)
-}
 
 // 0, and the probability in p; or minus the refusal's number, and p is left as it was. (Its parameters are as
 // turmexol.h declares them; why it matches: see status.rt.)

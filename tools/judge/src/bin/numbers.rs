@@ -9,10 +9,14 @@ use judge::random::Random;
 use judge::{arguments, ended, rate, standin};
 use std::fmt::Display;
 
-#[link(name = "exports", kind = "static")]
+#[link(name = "probe", kind = "static")]
 unsafe extern "C" {
     safe fn rate_half(t: f64) -> f64;
     safe fn rate_exp(y: f64) -> f64;
+}
+
+#[link(name = "exports", kind = "static")]
+unsafe extern "C" {
     fn rate_decode_probability(snr_db: f64, threshold_db: f64, slope_db: f64, p: *mut f64) -> i64;
 }
 
