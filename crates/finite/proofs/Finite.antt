@@ -33,7 +33,7 @@ use Rattle.rate.specs.declared.types.RateController.{RateController}
 use Rattle.rate.specs.declared.types.Answer.{Answer}
 use Rattle.rate.specs.Calls.{Call, Frames, Echo, Silence, Snr, Seed, Price, Family, verdict, accepted, step, after}
 use Rattle.rate.proofs.Stepping.{by_verdict}
-use Rattle.waiting.specs.Waiting.{Fresh, fresh}
+use Rattle.rate.specs.Fresh.{Fresh, fresh}
 use Rattle.waiting.proofs.Sound.{Sound, step_sound, fresh_sound}
 use Rattle.finite.specs.Finite.{Lies, LiesIn, TableLies, TariffLies, AccountLies, StateLies, FiniteAt, Finite, AlwaysFinite}
 use Rattle.finite.proofs.Ranges.{Range, In, bounded, in_finite}

@@ -23,7 +23,7 @@ use Rattle.rules.specs.Tries.{judge_above, candidate, waited, clean_climb, above
 use Rattle.rules.specs.Transmission.{inside}
 use Rattle.rate.specs.declared.types.RateController.{RateController}
 use Rattle.rate.specs.Calls.{Call, Frames, verdict, after}
-use Rattle.waiting.specs.Waiting.{Fresh}
+use Rattle.rate.specs.Fresh.{Fresh}
 
 -- ---- a number within its bounds
 -- neither an infinity nor a NaN, and from lo to hi

@@ -35,7 +35,8 @@ use Rattle.rules.proofs.Calm.{inside_given, decide_waits}
 use Rattle.rate.specs.declared.types.RateController.{RateController}
 use Rattle.rate.specs.declared.types.Answer.{Answer}
 use Rattle.rate.specs.Calls.{Call, Frames, Echo, Silence, Snr, Seed, Price, Family, verdict, accepted, step, after}
-use Rattle.waiting.specs.Waiting.{Fresh, fresh, taken, carried_frames, carries, frame_call, frame_calls, call_airs, air_sent, bound, Quiet, Outbid, Throughout, Demand3}
+use Rattle.rate.specs.Fresh.{Fresh, fresh}
+use Rattle.waiting.specs.Waiting.{taken, carried_frames, carries, frame_call, frame_calls, call_airs, air_sent, bound, Quiet, Outbid, Throughout, Demand3}
 use Rattle.rate.proofs.Stepping.{accepted_says, accepted_step, by_verdict, table_kept}
 use Rattle.waiting.proofs.Deadline.{deadline, not_yet, under_longest}
 use Rattle.waiting.proofs.Sound.{Sound, call_natural, step_sound, after_sound, fresh_sound}
