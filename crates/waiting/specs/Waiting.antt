@@ -115,6 +115,8 @@ Throughout i p k (c ∷ cs) = Quiet i p k × (T (frame_call k c) → Outbid i k 
 pub record Waiting (k : RateController) (calls : List Call) : Type 0 where
   -- what the controller holds as its running try is the try that the marks tell of
   pub marks_tell : (before rest : List Call) → calls ≡ before ++ rest → runs (after k before).state.core.trying ≡ runs_after false k before
+  -- "Marking *ended* before a try has run .. breaks demands 2 and 3": a call returns *ended* only where a try runs, by the marks before it
+  pub ended_ran : (before : List Call) (c : Call) (rest : List Call) → calls ≡ before ++ c ∷ rest → T (step (after k before) c).ended → T (runs_after false k before)
   -- "A try has ended by the sixth later accepted call that carries frames.": c returns *begun*, and `later` has six such calls
   pub tries_end : (before : List Call) (c : Call) (later rest : List Call) → calls ≡ before ++ c ∷ later ++ rest
       → T (step (after k before) c).begun
