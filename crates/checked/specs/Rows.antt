@@ -1,54 +1,68 @@
 -- The P rows of "Checked examples", as one table: what each says of the definitions that the calls promise. Definitions only; `proofs/Rows.antt` has the one theorem.
-use Rattle.std.specs.Prelude.{◌≡◌, Bool, true, false, not, ◌||◌, List, [], ◌∷◌, ℕ, eqb, Float, length, replicate, Err}
+use Rattle.std.specs.Prelude.{◌≡◌, Bool, true, false, not, ◌&&◌, ◌||◌, List, [], ◌∷◌, ℕ, eqb, T, Float, length, replicate, Ok, Err}
 use Rattle.std.specs.Float.Ieee.{neg, lt}
 use Rattle.float.specs.Numbers.{f64, f0, f½, f1, f20}
 use Rattle.half.specs.Power.{half, f1022}
-use Rattle.half.specs.Logistic.{decode_probability}
+use Rattle.half.specs.Logistic.{probability}
 use Rattle.limits.specs.declared.refusal.Refusal.{Refusal}
 use Rattle.limits.specs.declared.refusal.Refusal.TheVariants.{EmptyFront}
+use Rattle.limits.specs.Readings.{Reading}
 use Rattle.limits.specs.Refusals.{refusal_number}
 use Rattle.ladder.specs.Lists.{select}
-use Rattle.ladder.specs.Tables.{Columns, table_verdict, front_of_columns, table_of, for_air}
+use Rattle.ladder.specs.Tables.{Columns, ok_sizes, same_sizes, ok_values, ok_floors, table_verdict, front_of_columns}
 use Rattle.rate.specs.declared.types.RateController.{RateController}
-use Rattle.rate.specs.Calls.{Call, Silence, fresh_controller, after}
-use Rattle.ladder.specs.Airs.{floor_time, wide_air, narrow_air}
+use Rattle.rate.specs.Calls.{Call, Silence, after}
+use Rattle.rate.specs.Fresh.{Fresh}
+use Rattle.ladder.specs.Airs.{wide_air, narrow_air}
 
 -- whether a list has a number
 abbrev pub lists : List ℕ → ℕ → Bool
 lists [] r = false
 lists (x ∷ xs) r = eqb x r || lists xs r
 
--- n rungs that are all equal
-abbrev pub equal_rungs : ℕ → Columns
-equal_rungs n = record {
-  thresholds = replicate n f0;
-  payloads = replicate n 24;
-  capacities = replicate n 21;
-  times = replicate n floor_time;
-  limits = [];
-  floors = 0;
+-- n rungs that are all equal, any echo column, and so many floor rungs
+abbrev pub equal_rungs : ℕ → Float → ℕ → ℕ → Float → List Reading → ℕ → Columns
+equal_rungs n threshold payload capacity time limits floors = record {
+  thresholds = replicate n threshold;
+  payloads = replicate n payload;
+  capacities = replicate n capacity;
+  times = replicate n time;
+  limits = limits;
+  floors = floors;
 }
+
+-- none of the causes 1 to 4 applies to the columns
+abbrev pub ok_columns : Columns → Bool
+ok_columns c = ok_sizes c && same_sizes c && ok_values c && ok_floors c
+
+-- what is said of each table of n equal rungs that is within the limits
+abbrev pub OfEqual : ℕ → (Columns → Type 0) → Type 0
+OfEqual n P =
+    (threshold : Float) (payload capacity : ℕ) (time : Float) (limits : List Reading) (floors : ℕ) → let c = equal_rungs n threshold payload capacity time limits floors in T (ok_columns c) → P c
 
 pub data PRow : Type 0 where
   -- half(t) = r
   half_is : Float → Float → PRow
-  -- decode_probability(SNR, threshold, slope) = p
+  -- decode_probability(SNR, threshold, slope) is accepted, and is p
   probability_is : Float → Float → Float → Float → PRow
-  -- decode_probability(SNR, threshold, slope) > p
+  -- .. and is above p
   probability_over : Float → Float → Float → Float → PRow
-  -- the table is refused for this cause, whose number is n
-  refused_with : Columns → Refusal → ℕ → PRow
+  -- any n equal rungs within the limits are refused for this cause, whose number is m
+  equal_refused : ℕ → Refusal → ℕ → PRow
+  -- any n equal rungs within the limits are accepted, and this is their front
+  equal_front : ℕ → List ℕ → PRow
   -- the front has each rung of the table but these
   front_lacks : Columns → List ℕ → PRow
-  -- after these calls the choice is this place
-  place_is : RateController → List Call → ℕ → PRow
+  -- after these calls the choice of any fresh controller is this place
+  place_is : List Call → ℕ → PRow
 
 abbrev pub Says : PRow → Type 0
 Says (half_is t r) = half t ≡ r
-Says (probability_is snr threshold slope p) = decode_probability snr threshold slope ≡ p
-Says (probability_over snr threshold slope p) = lt p (decode_probability snr threshold slope) ≡ true
-Says (refused_with c why n) = (table_verdict c ≡ Err why) × (refusal_number why ≡ n)
-Says (place_is k calls n) = (after k calls).state.core.place.0 ≡ n
+Says (probability_is snr threshold slope p) = probability snr threshold slope ≡ Ok p
+Says (probability_over snr threshold slope p) = (q : Float) × (probability snr threshold slope ≡ Ok q) × (lt p q ≡ true)
+Says (equal_refused n why m) = OfEqual n (λ c. table_verdict c ≡ Err why) × (refusal_number why ≡ m)
+Says (equal_front n front) = OfEqual n (λ c. (table_verdict c ≡ Ok tt) × (front_of_columns c ≡ front))
+Says (place_is calls n) = (k : RateController) → Fresh k → (after k calls).state.core.place.0 ≡ n
 Says (front_lacks c gone) = front_of_columns c ≡ select (length c.thresholds) 0 (λ r. not (lists gone r))
 
 abbrev pub Each : List PRow → Type 0
@@ -77,9 +91,9 @@ p_rows =
     -- "P4 half(1022) = 0.0."
     half_is f1022 f0 ∷
     -- "P5 two equal rungs: 5."
-    refused_with (equal_rungs 2) EmptyFront 5 ∷
+    equal_refused 2 EmptyFront 5 ∷
     -- "P6 one rung: front is it."
-    front_lacks (equal_rungs 1) [] ∷
+    equal_front 1 (0 ∷ []) ∷
     -- "P7 wide front lacks just 6 and 13."
     front_lacks wide_air (6 ∷ 13 ∷ []) ∷
     -- "P8 narrow lacks just 8."
@@ -88,5 +102,5 @@ p_rows =
     probability_over (neg f20) f0 f½ f0 ∷
     probability_is (neg f20¼) f0 f½ f0 ∷
     -- "P10 fresh, silence 9: place 0."
-    place_is (fresh_controller (for_air (table_of wide_air) true)) (Silence 9 ∷ []) 0 ∷
+    place_is (Silence 9 ∷ []) 0 ∷
     []

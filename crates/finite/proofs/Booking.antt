@@ -1,14 +1,14 @@
 -- What frames alone move stays within its bounds. An account ages by a share, and a full one loses more by its own rung's ageing than it then gains; an offset is
 -- clamped, and what is clamped is no NaN; what is added to a time at its bound is lost in rounding. Assumes nothing.
 use mathlib.Core.Path.{◌≡◌, sym, subst}
-use mathlib.Core.Bool.{Bool, ◌&&◌, cond}
+use mathlib.Core.Bool.{Bool, ◌&&◌}
 use mathlib.Core.List.{List, [], ◌∷◌}
 use Prim.Native.Nat.{ℕ, zero, suc, ◌≤◌}
 use native.Mathlib.Omega.{arith}
 use lib.Dec.{T, leb→le}
 use lib.ListN.{get_or, set}
-use lib.Ieee.{Float, of_bits, of_int, round, neg, add, sub, mul, div, le, lt}
-use Rattle.float.specs.Numbers.{f64, ◌⊕◌, ◌⊖◌, ◌⊗◌, ◌⊘◌, of_nat, f0, f1}
+use lib.Ieee.{Float, of_bits, of_int, round, neg, add, mul, div, le, lt}
+use Rattle.float.specs.Numbers.{f64, ◌⊕◌, ◌⊗◌, ◌⊘◌, of_nat, f0, f1}
 use Rattle.float.specs.Sum.{total}
 use Rattle.float.proofs.Order.{number, not_lt}
 use Rattle.float.proofs.Rounding.{zero64}
@@ -27,16 +27,16 @@ use Rattle.account.specs.declared.types.Account.{Account}
 use Rattle.account.specs.declared.types.Offsets.{Offsets}
 use Rattle.account.specs.declared.types.State.{State}
 use Rattle.account.specs.State.{no_account}
-use Rattle.account.specs.Price.{prior_p}
 use Rattle.rules.specs.declared.types.Frame.{Frame}
 use Rattle.account.specs.Fixed.{half_life, least_offset, most_offset}
 use Rattle.rules.specs.Booking.{at, clamp, moved, offset_step, offsets_from, offsets_at, offsets_after, aged, gained, book_one, book_frame, book, airs, call_air, passed, booked}
 use Rattle.rules.specs.Check.{frame_verdict, first_bad}
 use Rattle.rules.proofs.Fade.{own_fade_lem}
 use Rattle.waiting.proofs.Sound.{frame_ok}
-use Rattle.finite.proofs.Ranges.{Range, ◌to◌, In, bounded, first, second, third, in_by, in_number, in_natural, widen, holds, ◌⊞◌, ◌⊠◌, ◌÷◌, scaled, sums, differences, products, quotients, scales, sum_in, difference_in, product_in, quotient_in, scaled_in, counts}
-use Rattle.finite.proofs.Bounds.{decibels, air_times, account_bytes, account_air, account_frames, capacities, shares, offsets, surprises, times, TableIn, AccountIn, OffsetsIn, Held, all_any}
-use Rattle.finite.proofs.Values.{share_in, prior_p_in, no_account_in}
+use Rattle.finite.proofs.Ranges.{Range, ◌to◌, In, first, second, third, in_by, in_number, in_natural, widen, holds, ◌⊠◌, ◌÷◌, scaled, sums, products, quotients, scales, sum_in, product_in, quotient_in, scaled_in, counts}
+use Rattle.finite.proofs.Bounds.{decibels, air_times, account_bytes, account_air, account_frames, capacities, shares, offsets, times, TableIn, AccountIn, OffsetsIn, Held, all_any}
+use Rattle.finite.specs.Finite.{unclamped}
+use Rattle.finite.proofs.Values.{share_in, moves, move_ends, unclamped_in, no_account_in}
 
 -- ---- frames that are accepted
 pub record FrameIn (f : Frame) : Type 0 where
@@ -139,22 +139,9 @@ clamp_in x n =
     cond_both (lt x least_offset) _ _ (In offsets) (λ e. clamp_ends.2)
     (λ e. cond_both (lt most_offset x) _ _ (In offsets) (λ d. clamp_ends.3) (λ d. in_by offsets x (not_lt x least_offset n clamp_ends.0 (T_from_false _ e)) (not_lt most_offset x clamp_ends.1 n (T_from_false _ d))))
 
-move_ends : T (differences shares shares surprises) × T (sums offsets surprises (offsets ⊞ surprises)) × T (bounded (offsets ⊞ surprises)) × In shares f0 × In shares f1
-unfolding of_bits neg add sub le
-move_ends = (tt, tt, tt, tt, tt)
-
 module _ (t : Table) (ts : TableIn t) (snr : Float) (hs : In decibels snr) where
   moved_in : (f : Frame) (off : Float) → In offsets off → In offsets (moved t snr f off)
-  unfolding prior_p
-  moved_in f off h =
-      let r = f.rung.0 in
-      let p = prior_p t r off snr in
-      let y = p ⊖ cond f.decoded f1 f0 in
-      let g = scaled_in t.air.gain surprises surprises y
-      (difference_in shares shares surprises p (cond f.decoded f1 f0) (prior_p_in (row t r).threshold t.air.margin off snr (ts.rows r).threshold ts.margin h hs)
-      (pick (In shares) f.decoded move_ends.4 move_ends.3) move_ends.0)
-      ts.moves in
-      clamp_in (off ⊕ t.air.gain ⊗ y) (in_number (offsets ⊞ surprises) (off ⊕ t.air.gain ⊗ y) move_ends.2 (sum_in offsets surprises (offsets ⊞ surprises) off (t.air.gain ⊗ y) h g move_ends.1))
+  moved_in f off h = let x = unclamped t snr f off in clamp_in x (in_number moves x move_ends.2 (unclamped_in t ts snr hs f off h))
 
   step_in : (f : Frame) (o : Offsets) → OffsetsIn o → OffsetsIn (offset_step t snr f o)
   step_in f o h =

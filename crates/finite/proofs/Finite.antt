@@ -6,9 +6,9 @@ use mathlib.Core.List.{List, [], ◌∷◌}
 use native.Mathlib.Omega.{arith}
 use lib.Dec.{T, leb}
 use lib.ListN.{length}
-use lib.Ieee.{Float, of_bits, neg, le}
+use lib.Ieee.{Float, of_bits, neg, sub, le}
 use lib.Ieee.Fits.{and_l, and_r}
-use Rattle.float.specs.Numbers.{f0}
+use Rattle.float.specs.Numbers.{◌⊖◌, f0}
 use Rattle.limits.specs.Values.{ok_db, ok_share, ok_length, ok_burst}
 use Rattle.limits.specs.Refusals.{unless, or_else}
 use Rattle.limits.specs.declared.refusal.Refusal.TheVariants.{TooManyFrames, OutsideLimits, TooManyBursts}
@@ -22,7 +22,7 @@ use Rattle.ladder.proofs.Entries.{All, all_replicate}
 use Rattle.account.specs.declared.types.Account.{Account}
 use Rattle.account.specs.declared.types.Tariff.{Tariff}
 use Rattle.account.specs.declared.types.State.{State}
-use Rattle.account.specs.Fixed.{first_wait}
+use Rattle.account.specs.Fixed.{first_wait, wait_tolerance}
 use Rattle.account.specs.State.{no_account, account, since_of}
 use Rattle.account.specs.Price.{wait_s}
 use Rattle.account.proofs.FullAir.{TariffSound, bursts_small, IsWait}
@@ -33,10 +33,10 @@ use Rattle.rate.specs.declared.types.RateController.{RateController}
 use Rattle.rate.specs.declared.types.Answer.{Answer}
 use Rattle.rate.specs.Calls.{Call, Frames, Echo, Silence, Snr, Seed, Price, Family, verdict, accepted, step, after}
 use Rattle.rate.proofs.Stepping.{by_verdict}
-use Rattle.waiting.specs.Waiting.{Fresh, fresh}
+use Rattle.rate.specs.Fresh.{Fresh, fresh}
 use Rattle.waiting.proofs.Sound.{Sound, step_sound, fresh_sound}
-use Rattle.finite.specs.Finite.{Lies, LiesIn, TableLies, TariffLies, AccountLies, StateLies, FiniteAt, Finite, AlwaysFinite}
-use Rattle.finite.proofs.Ranges.{Range, In, bounded, in_finite}
+use Rattle.finite.specs.Finite.{longest_time, Lies, LiesIn, TableLies, TariffLies, AccountLies, StateLies, FiniteAt, Finite, AlwaysFinite}
+use Rattle.finite.proofs.Ranges.{Range, ◌to◌, differences, difference_in, In, bounded, in_finite}
 use Rattle.finite.proofs.Bounds.{decibels, air_times, account_bytes, account_air, account_frames, lengths, shares, margins, offsets, times, TableIn, TariffIn, AccountIn, Held, all_any, made_in}
 use Rattle.finite.proofs.Values.{no_account_in, compared}
 use Rattle.finite.proofs.Booking.{FrameIn, frames_in_lem, zero_time}
@@ -111,6 +111,14 @@ fresh_kept k (fresh c wide e) = record {
 }
 
 -- ---- what lies in one of the ranges is finite
+-- a wait less 1e-9
+abbrev due_times : Range
+due_times = neg wait_tolerance to longest_time
+
+due_ends : T (differences times (wait_tolerance to wait_tolerance) due_times) × T (bounded due_times) × In (wait_tolerance to wait_tolerance) wait_tolerance
+unfolding of_bits neg sub le
+due_ends = (tt, tt, tt)
+
 ends : T (bounded decibels) × T (bounded air_times) × T (bounded lengths) × T (bounded shares) × T (bounded margins) × T (bounded offsets) × T (bounded times)
 unfolding of_bits neg
 ends = (tt, tt, tt, tt, tt, tt, tt)
@@ -175,6 +183,10 @@ kept_finite k h =
     let at : (s : State) → Held s → FiniteAt t p s = λ s g. record {
       state = state_lies s g;
       seconds = λ r. lies times (wait_s t p.tariff s r) ends.6 (wait_in t p h.table h.tariff s r g);
+      due = λ r.
+          let w = wait_s t p.tariff s r in
+          lies due_times (w ⊖ wait_tolerance) due_ends.1
+          (difference_in times (wait_tolerance to wait_tolerance) due_times w wait_tolerance (wait_in t p h.table h.tariff s r g) due_ends.2 due_ends.0);
       compared = compared t p s h.table h.tariff g;
     } in
     record {

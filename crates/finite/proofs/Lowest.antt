@@ -14,7 +14,7 @@ use Rattle.rules.specs.Lowest.{BestOf}
 use Rattle.rules.proofs.LowestFound.{lowest_of_greatest}
 use Rattle.rate.specs.declared.types.RateController.{RateController}
 use Rattle.rate.specs.Calls.{Call, Frames, verdict, after}
-use Rattle.waiting.specs.Waiting.{Fresh}
+use Rattle.rate.specs.Fresh.{Fresh}
 use Rattle.finite.proofs.Finite.{always_finite}
 
 module _ (k : RateController) (f : Fresh k) (calls : List Call) (fs : List Frame) (snr : Reading) where

@@ -232,6 +232,19 @@ scaled_in f a c x h e =
     widen (scaled f a) c (f ⊗ x) (third (finite f && le zero64 f) (bounded a) (holds c (scaled f a)) e)
     (in_by (scaled f a) (f ⊗ x) (scale_mono f a.lo x ff nf (lo_finite a x A) fx (from_lo a x h)) (scale_mono f x a.hi ff nf fx (hi_finite a x A) (up_to_hi a x h)))
 
+-- by a divisor above 0, of values of either sign
+abbrev pub divides : Float → Range → Range → Bool
+divides y a c = positive y && bounded a && holds c ((a.lo ⊘ y) to (a.hi ⊘ y))
+
+pub divided_in : (y : Float) (a c : Range) (x : Float) → In a x → T (divides y a c) → In c (x ⊘ y)
+divided_in y a c x h e =
+    let b = (a.lo ⊘ y) to (a.hi ⊘ y) in
+    let q = first (positive y) (bounded a) (holds c b) e in
+    let A = second (positive y) (bounded a) (holds c b) e in
+    let fx = in_finite a x A h in
+    widen b c (x ⊘ y) (third (positive y) (bounded a) (holds c b) e)
+    (in_by b (x ⊘ y) (div_mono binary64 a.lo x y (lo_finite a x A) fx q (from_lo a x h)) (div_mono binary64 x a.hi y fx (hi_finite a x A) q (up_to_hi a x h)))
+
 -- ---- a number as f64
 pub counts : (m n k : ℕ) → m ≤ n → n ≤ k → In (of_nat m to of_nat k) (of_nat n)
 counts m n k h l = in_by (of_nat m to of_nat k) (of_nat n) (of_mono m n h) (of_mono n k l)

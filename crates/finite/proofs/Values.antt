@@ -1,15 +1,17 @@
 -- Every value and price is finite and at least 0: an estimate's divisor is at least two frame times, and a price's at least the burst's air. Assumes nothing.
 use mathlib.Core.Path.{◌≡◌, refl, sym, ap, subst}
-use mathlib.Core.Bool.{Bool, true, false, not, ◌&&◌, ◌||◌}
+use mathlib.Core.Bool.{Bool, true, false, not, ◌&&◌, ◌||◌, cond}
 use Prim.Native.Nat.{ℕ, zero, suc, ◌≤◌}
 use native.Mathlib.Omega.{arith}
 use lib.Dec.{T, leb, ltb, eqb, leb→le, ltb→lt, lt→ltb, nleb→lt}
 use lib.Ieee.{Float, of_bits, of_int, round, neg, add, sub, mul, div, le, lt}
 use lib.Ieee.Positive.{positive}
-use Rattle.float.specs.Numbers.{◌⊕◌, ◌⊖◌, ◌⊗◌, of_nat, f0}
+use Rattle.float.specs.Numbers.{◌⊕◌, ◌⊖◌, ◌⊗◌, ◌⊘◌, of_nat, f0, f1}
 use Rattle.float.proofs.Order.{number}
 use Rattle.float.proofs.Share.{Share}
+use Rattle.half.specs.Logistic.{logistic, decode_probability}
 use Rattle.half.proofs.Range.{probability_share, from_share}
+use Rattle.limits.specs.Values.{ok_db}
 use Rattle.limits.specs.Readings.{Reading, ok_snr}
 use Rattle.std.specs.Prelude.{Option, None, Some}
 use Rattle.ladder.specs.declared.types.Row.{Row}
@@ -25,13 +27,14 @@ use Rattle.account.specs.declared.types.Prices.{Prices}
 use Rattle.account.specs.declared.types.State.{State}
 use Rattle.account.specs.Fixed.{prior_weight, slope, enough_frames}
 use Rattle.account.specs.State.{no_account, account, choice}
-use Rattle.account.specs.Price.{offset, prior_p_at, prior_of, estimate_by, estimate_at, lossless, own_floor, other_floor, control, burst_or, overhead_of, priced_of, priced_by, priced, value, lossless_price}
+use Rattle.account.specs.Price.{offset, prior_p_at, prior_p, prior_of, estimate_by, estimate_at, lossless, own_floor, other_floor, control, burst_or, overhead_of, priced_of, priced_by, priced, value, lossless_price}
 use Rattle.account.proofs.FullAir.{bursts_small}
+use Rattle.rules.specs.declared.types.Frame.{Frame}
 use Rattle.rules.specs.Echo.{usable}
 use Rattle.rules.specs.Tries.{waited, clean_climb, above}
-use Rattle.finite.specs.Finite.{OneTest, most_rate, most_value, Lies, Compared, Alike}
-use Rattle.finite.proofs.Ranges.{Range, ◌to◌, In, bounded, in_by, in_finite, in_number, widen, ◌⊞◌, ◌⊟◌, ◌⊠◌, scaled, holds, sums, differences, products, quotients, scales, sum_in, difference_in, product_in, quotient_in, scaled_in, counts, opposite, one_test}
-use Rattle.finite.proofs.Bounds.{decibels, air_times, account_bytes, account_air, account_frames, capacities, lengths, shares, margins, offsets, RowIn, TableIn, GivenIn, TariffIn, AccountIn, OffsetsIn, Held, all_any}
+use Rattle.finite.specs.Finite.{OneTest, most_distance, least_moved, most_moved, most_rate, most_value, distance, unclamped, Lies, Compared, Alike}
+use Rattle.finite.proofs.Ranges.{Range, ◌to◌, In, bounded, in_by, in_finite, in_number, widen, ◌⊞◌, ◌⊟◌, ◌⊠◌, scaled, holds, sums, differences, products, quotients, scales, divides, divided_in, sum_in, difference_in, product_in, quotient_in, scaled_in, counts, opposite, one_test}
+use Rattle.finite.proofs.Bounds.{decibels, air_times, account_bytes, account_air, account_frames, capacities, lengths, shares, margins, offsets, surprises, RowIn, TableIn, GivenIn, TariffIn, AccountIn, OffsetsIn, Held, all_any}
 
 -- ---- a probability
 pub share_in : (p : Float) → Share p → In shares p
@@ -44,16 +47,33 @@ less_offset = decibels ⊟ offsets
 abbrev less_margin : Range
 less_margin = less_offset ⊟ margins
 
-prior_p_ends : T (differences decibels offsets less_offset) × T (differences less_offset margins less_margin) × T (bounded less_margin) × T (bounded decibels) × T (positive slope)
+prior_p_ends : T (differences decibels offsets less_offset) × T (differences less_offset margins less_margin) × T (bounded less_margin) × T (bounded decibels) × T (positive slope) × T (bounded shares)
 unfolding of_bits neg sub le
-prior_p_ends = (tt, tt, tt, tt, tt)
+prior_p_ends = (tt, tt, tt, tt, tt, tt)
 
-pub prior_p_in : (threshold margin off snr : Float) → In decibels threshold → In margins margin → In offsets off → In decibels snr → In shares (prior_p_at threshold margin off snr)
-prior_p_in threshold margin off snr ht hm ho hs =
-    let x = snr ⊖ off in
-    let y = difference_in less_offset margins less_margin x margin (difference_in decibels offsets less_offset snr off hs ho prior_p_ends.0) hm prior_p_ends.1 in
-    share_in (prior_p_at threshold margin off snr)
-    (probability_share (x ⊖ margin) threshold slope (in_number less_margin (x ⊖ margin) prior_p_ends.2 y) (in_finite decibels threshold prior_p_ends.3 ht) prior_p_ends.4)
+-- and less the threshold, over the slope
+abbrev distances : Range
+distances = neg most_distance to most_distance
+
+distance_ends : T (differences less_margin decibels (less_margin ⊟ decibels)) × T (divides slope (less_margin ⊟ decibels) distances) × T (bounded distances)
+unfolding of_bits neg sub div le
+distance_ends = (tt, tt, tt)
+
+-- the SNR that the prior takes
+module _ (margin off snr : Float) (hm : In margins margin) (ho : In offsets off) (hs : In decibels snr) where
+  margin_in : In less_margin (snr ⊖ off ⊖ margin)
+  margin_in = difference_in less_offset margins less_margin (snr ⊖ off) margin (difference_in decibels offsets less_offset snr off hs ho prior_p_ends.0) hm prior_p_ends.1
+
+  module _ (threshold : Float) (ht : In decibels threshold) where
+    pub prior_p_in : In shares (prior_p_at threshold margin off snr)
+    prior_p_in =
+        share_in (prior_p_at threshold margin off snr)
+        (probability_share (snr ⊖ off ⊖ margin) threshold slope (in_number less_margin (snr ⊖ off ⊖ margin) prior_p_ends.2 margin_in) (in_finite decibels threshold prior_p_ends.3 ht) prior_p_ends.4)
+
+    distance_in : In distances ((snr ⊖ off ⊖ margin ⊖ threshold) ⊘ slope)
+    distance_in =
+        divided_in slope (less_margin ⊟ decibels) distances (snr ⊖ off ⊖ margin ⊖ threshold)
+        (difference_in less_margin decibels (less_margin ⊟ decibels) (snr ⊖ off ⊖ margin) threshold margin_in ht distance_ends.0) distance_ends.1
 
 -- ---- the prior
 abbrev priors : Range
@@ -67,7 +87,7 @@ prior_in_lem : (a : Row) (margin off : Float) (snr : Reading) → RowIn a → In
 prior_in_lem a margin off None h hm ho hs = prior_ends.1
 prior_in_lem a margin off (Some snr) h hm ho hs =
     product_in capacities shares priors (of_nat a.capacity) (prior_p_at a.threshold margin off snr)
-    (counts 0 a.capacity 4096 (omega arith) h.capacity) (prior_p_in a.threshold margin off snr h.threshold hm ho hs) prior_ends.0
+    (counts 0 a.capacity 4096 (omega arith) h.capacity) (prior_p_in margin off snr hm ho hs a.threshold h.threshold) prior_ends.0
 
 -- ---- the estimate
 abbrev rates : Range
@@ -144,6 +164,26 @@ priced_in n time over x hn ht ho hx =
     quotient_in (rates ⊠ bursts) (bursts ⊞ overheads) values (x ⊗ a) (a ⊕ over)
     (product_in rates bursts (rates ⊠ bursts) x a hx b burst_ends.1) (sum_in bursts overheads (bursts ⊞ overheads) a over b ho burst_ends.2) price_ends.0)
 
+-- ---- what is clamped: an offset, moved by a family's gain of a surprise
+abbrev pub moves : Range
+moves = least_moved to most_moved
+
+pub move_ends : T (differences shares shares surprises) × T (sums offsets surprises moves) × T (bounded moves) × In shares f0 × In shares f1
+unfolding of_bits neg add sub le
+move_ends = (tt, tt, tt, tt, tt)
+
+pub unclamped_in : (t : Table) → TableIn t → (snr : Float) → In decibels snr → (f : Frame) (off : Float) → In offsets off → In moves (unclamped t snr f off)
+unfolding prior_p
+unclamped_in t ts snr hs f off h =
+    let r = f.rung.0 in
+    let p = prior_p t r off snr in
+    let y = p ⊖ cond f.decoded f1 f0 in
+    let g = scaled_in t.air.gain surprises surprises y
+    (difference_in shares shares surprises p (cond f.decoded f1 f0) (prior_p_in t.air.margin off snr ts.margin h hs (row t r).threshold (ts.rows r).threshold)
+    (pick (In shares) f.decoded move_ends.4 move_ends.3) move_ends.0)
+    ts.moves in
+    sum_in offsets surprises moves off (t.air.gain ⊗ y) h g move_ends.1
+
 -- ---- of a rung
 pub no_account_in : AccountIn no_account
 unfolding of_bits le
@@ -177,12 +217,33 @@ module _ (t : Table) (p : Prices) (s : State) (ts : TableIn t) (ps : TariffIn p.
   account_in : (r : ℕ) → AccountIn (account s r)
   account_in r = all_any AccountIn s.accounts r no_account ha no_account_in
 
+  offset_in : (r : ℕ) → In offsets (offset t s r)
+  offset_in r = pick (In offsets) (is_floor t r) ho.floor ho.ofdm
+
+  probability_lies : (snr : Float) → T (ok_db snr) → (r : ℕ) → Lies f0 f1 (prior_p t r (offset t s r) snr)
+  unfolding prior_p
+  probability_lies snr k r =
+      let p = prior_p t r (offset t s r) snr in
+      let h = prior_p_in t.air.margin (offset t s r) snr ts.margin (offset_in r) k (row t r).threshold (ts.rows r).threshold in (in_finite shares p prior_p_ends.5 h, h)
+
+  distance_lies : (snr : Float) → T (ok_db snr) → (r : ℕ) → Lies (neg most_distance) most_distance (distance t s r snr)
+  distance_lies snr k r =
+      let d = distance t s r snr in
+      let h = distance_in t.air.margin (offset t s r) snr ts.margin (offset_in r) k (row t r).threshold (ts.rows r).threshold in (in_finite distances d distance_ends.2 h, h)
+
+  by_distance : (snr : Float) (r : ℕ) → prior_p t r (offset t s r) snr ≡ logistic (distance t s r snr)
+  unfolding prior_p decode_probability
+  by_distance snr r = refl
+
+  unclamped_lies : (snr : Float) → T (ok_db snr) → (f : Frame) (off : Float) → In offsets off → Lies least_moved most_moved (unclamped t snr f off)
+  unclamped_lies snr k f off h = let g = unclamped_in t ts snr k f off h in (in_finite moves (unclamped t snr f off) move_ends.2 g, g)
+
   estimate_at_in : (r : ℕ) (snr : Reading) → T (ok_snr snr) → In rates (estimate_at t s r snr)
   unfolding estimate_at
   estimate_at_in r snr k =
       let off = offset t s r in
       estimate_in (account s r) (prior_of (row t r) t.air.margin off snr) (row t r).time (account_in r)
-      (prior_in_lem (row t r) t.air.margin off snr (ts.rows r) ts.margin (pick (In offsets) (is_floor t r) ho.floor ho.ofdm) k) (ts.rows r).time
+      (prior_in_lem (row t r) t.air.margin off snr (ts.rows r) ts.margin (offset_in r) k) (ts.rows r).time
 
   lossless_in : (r : ℕ) → In rates (lossless t r)
   unfolding lossless
@@ -221,6 +282,11 @@ module _ (t : Table) (p : Prices) (s : State) (ts : TableIn t) (ps : TariffIn p.
         lossless_rates = λ r. rate_lies (lossless t r) (lossless_in r);
         lossless_prices = λ r. value_lies (lossless_price t p r) (lossless_price_in r);
         first_values = λ snr k r. value_lies (priced t p r (estimate_at t s r (Some snr))) (price_in r (estimate_at t s r (Some snr)) (estimate_at_in r (Some snr) k));
+        probabilities = probability_lies;
+        distances = distance_lies;
+        by_distance = by_distance;
+        moves = unclamped_lies;
+        by_clamp = λ snr f off. refl;
         value_over_value = λ r q. one_test (value t p s r) (value t p s q) (value_number (value t p s r) (value_in r)) (value_number (value t p s q) (value_in q));
         price_over_value = price_test;
         frames_over_two = frames_test;

@@ -1,9 +1,10 @@
 -- What holds of every controller that calls can leave: each of its numbers is finite and lies within named bounds, and so does each value and price that it compares.
 -- So no comparison meets a NaN, and "v > b" of document 01 is the test "not v <= b" of the Rust. Definitions only.
-use Rattle.std.specs.Prelude.{◌≡◌, Bool, not, ◌&&◌, ◌||◌, List, ℕ, suc, ◌≤◌, T, ltb, Float, Ok, None, Some, Option}
+use Rattle.std.specs.Prelude.{◌≡◌, Bool, not, ◌&&◌, ◌||◌, cond, List, ℕ, suc, ◌≤◌, T, ltb, Float, Ok, None, Some, Option}
 use Rattle.std.specs.Float.Ieee.{neg, le, lt}
 use Rattle.std.specs.Float.Ieee.Scale.{finite}
-use Rattle.float.specs.Numbers.{f64, within, f0, f1}
+use Rattle.float.specs.Numbers.{f64, ◌⊕◌, ◌⊖◌, ◌⊗◌, ◌⊘◌, within, f0, f1}
+use Rattle.half.specs.Logistic.{logistic}
 use Rattle.limits.specs.Values.{f200, f60, milli, ok_db}
 use Rattle.limits.specs.Readings.{Reading}
 use Rattle.ladder.specs.declared.types.Table.{Table}
@@ -13,17 +14,17 @@ use Rattle.account.specs.declared.types.Account.{Account}
 use Rattle.account.specs.declared.types.Tariff.{Tariff}
 use Rattle.account.specs.declared.types.Prices.{Prices}
 use Rattle.account.specs.declared.types.State.{State}
-use Rattle.account.specs.Fixed.{longest_wait, least_offset, most_offset, enough_frames}
+use Rattle.account.specs.Fixed.{slope, longest_wait, least_offset, most_offset, enough_frames, wait_tolerance}
 use Rattle.account.specs.State.{account, since_of, wait_of, choice}
-use Rattle.account.specs.Price.{burst_or, estimate, estimate_at, lossless, priced, value, lossless_price, wait_s}
+use Rattle.account.specs.Price.{offset, prior_p, burst_or, estimate, estimate_at, lossless, priced, value, lossless_price, wait_s}
 use Rattle.rules.specs.declared.types.Frame.{Frame}
 use Rattle.rules.specs.Echo.{usable, observe_snr}
-use Rattle.rules.specs.Booking.{booked}
+use Rattle.rules.specs.Booking.{clamp, moved, booked}
 use Rattle.rules.specs.Tries.{judge_above, candidate, waited, clean_climb, above, begins}
 use Rattle.rules.specs.Transmission.{inside}
 use Rattle.rate.specs.declared.types.RateController.{RateController}
 use Rattle.rate.specs.Calls.{Call, Frames, verdict, after}
-use Rattle.waiting.specs.Waiting.{Fresh}
+use Rattle.rate.specs.Fresh.{Fresh}
 
 -- ---- a number within its bounds
 -- neither an infinity nor a NaN, and from lo to hi
@@ -49,6 +50,16 @@ most_frames = f64 0x4032_0000_0000_0000
 -- 2^120: so long a time since a try grows no further, as what is added is lost in rounding
 abbrev pub longest_time : Float
 longest_time = f64 0x4770_0000_0000_0000
+
+-- 846.0, -6.0 and 21.0: 200 dB on both sides, an offset of 20 and a margin of 3, over the slope of 0.5; an offset moved by 1 at most, before it is clamped
+abbrev pub most_distance : Float
+most_distance = f64 0x408a_7000_0000_0000
+
+abbrev pub least_moved : Float
+least_moved = f64 0xc018_0000_0000_0000
+
+abbrev pub most_moved : Float
+most_moved = f64 0x4035_0000_0000_0000
 
 -- 2^26: above 73,000 bytes and the prior over the shortest air. 2^52: above that times the longest burst, over the shortest
 abbrev pub most_rate : Float
@@ -91,6 +102,15 @@ pub record StateLies (s : State) : Type 0 where
   pub floor_offset : Lies least_offset most_offset s.core.offsets.floor
   pub ofdm_offset : Lies least_offset most_offset s.core.offsets.ofdm
 
+-- ---- what is computed on the way to what is compared
+-- "d = (SNR - threshold)/slope" of the prior, whose SNR is less offset and margin
+abbrev pub distance : Table → State → ℕ → Float → Float
+distance t s r snr = (snr ⊖ offset t s r ⊖ t.air.margin ⊖ (row t r).threshold) ⊘ slope
+
+-- "offset += gain × (p - decoded)", before it is clamped, of a frame and an offset
+abbrev pub unclamped : Table → Float → Frame → Float → Float
+unclamped t snr f off = off ⊕ t.air.gain ⊗ (prior_p t f.rung.0 off snr ⊖ cond f.decoded f1 f0)
+
 -- ---- what is compared
 -- "x > y" and "not x <= y" are one test: a NaN would part them
 abbrev pub OneTest : Float → Float → Type 0
@@ -113,6 +133,13 @@ pub record Compared (t : Table) (p : Prices) (s : State) : Type 0 where
   pub lossless_prices : (r : ℕ) → Lies f0 most_value (lossless_price t p r)
   -- what `first_mode` and `seed` compare, at every SNR that they accept
   pub first_values : (snr : Float) → T (ok_db snr) → (r : ℕ) → Lies f0 most_value (priced t p r (estimate_at t s r (Some snr)))
+  -- the prior's probability, and what it is compared by, at every SNR within the limits: the smoothed one is (`StateLies`)
+  pub probabilities : (snr : Float) → T (ok_db snr) → (r : ℕ) → Lies f0 f1 (prior_p t r (offset t s r) snr)
+  pub distances : (snr : Float) → T (ok_db snr) → (r : ℕ) → Lies (neg most_distance) most_distance (distance t s r snr)
+  pub by_distance : (snr : Float) (r : ℕ) → prior_p t r (offset t s r) snr ≡ logistic (distance t s r snr)
+  -- what is clamped, of any frame, SNR and offset within the limits
+  pub moves : (snr : Float) → T (ok_db snr) → (f : Frame) (off : Float) → T (within least_offset most_offset off) → Lies least_moved most_moved (unclamped t snr f off)
+  pub by_clamp : (snr : Float) (f : Frame) (off : Float) → moved t snr f off ≡ clamp (unclamped t snr f off)
   -- a value against a value, a lossless price against a value, and "over 2 decayed frames"; so the definitions' tests are the Rust's
   pub value_over_value : (r q : ℕ) → OneTest (value t p s r) (value t p s q)
   pub price_over_value : (r q : ℕ) → OneTest (lossless_price t p r) (value t p s q)
@@ -132,6 +159,8 @@ pub record Alike (s z : State) : Type 0 where
 pub record FiniteAt (t : Table) (p : Prices) (s : State) : Type 0 where
   pub state : StateLies s
   pub seconds : (r : ℕ) → Lies f0 longest_time (wait_s t p.tariff s r)
+  -- "its time >= wait - 1e-9"
+  pub due : (r : ℕ) → Lies (neg wait_tolerance) longest_time (wait_s t p.tariff s r ⊖ wait_tolerance)
   pub compared : (z : State) → Alike s z → Compared t p z
 
 pub record Finite (k : RateController) : Type 0 where

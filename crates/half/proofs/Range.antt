@@ -4,19 +4,20 @@ use Rattle.std.proofs.Common.{◌≡◌, ℕ, zero, suc, ◌+◌, ◌*◌, ◌/�
 use lib.Ieee.{Float, nan, binary64, neg, sub, mul, div, le, lt, of_bits, fits}
 use lib.Ieee.Fits.{and_l, and_r}
 use lib.Ieee.Scale.{finite}
-use lib.Ieee.Positive.{positive}
+use lib.Ieee.Positive.{positive, between}
 use Rattle.float.specs.Numbers.{f64, ◌⊕◌, ◌⊖◌, ◌⊗◌, ◌⊘◌, f0, f½, f1, f2, f5}
-use Rattle.std.proofs.lemmas.Float.{one_f64_is}
+use Rattle.std.proofs.lemmas.Float.{one_f64_is, T_from_true}
 use Rattle.float.proofs.Table.{every, at}
 use Rattle.float.proofs.Order.{number, le_le, le_left, le_right, lt_le, not_le}
 use Rattle.float.proofs.Rounding.{zero64, neg_number}
-use Rattle.float.proofs.Monotone.{natural, sub_mono, sub_number, zero_is, finite_number}
+use Rattle.float.proofs.Monotone.{natural, sub_mono, sub_number, zero_is, finite_number, between_limits}
 use Rattle.float.proofs.Exact.{grows}
 use Rattle.float.proofs.Division.{div_number}
 use Rattle.float.proofs.Share.{one64, plain, plain_natural, Share, UpTo, Small, share_small, round_share, mul_small, mul_share, less_share, div_plain, div_small, mul_up, one_by, neg_natural, inverse_from_one}
 use Rattle.half.specs.Powers.{powers, power_at}
 use Rattle.half.specs.Power.{f512, f1022, ln2, f3, f4, descent, whole_steps, part_steps, level, series_in, series, inverse_power, joined, half}
-use Rattle.half.specs.Logistic.{log2e, f9, f40, exp, logistic, decode_probability, FromZeroToOne}
+use Rattle.limits.specs.Values.{f200, eighth, f16, ok_db, ok_slope}
+use Rattle.half.specs.Logistic.{log2e, f9, f40, exp, logistic, decode_probability, ok_arguments, FromZeroToOne}
 use Rattle.half.proofs.Powers.{sized}
 
 -- ---- the series, for u from 0 to 1
@@ -224,3 +225,22 @@ half_from_zero_to_one t n = from_share (half t) (half_share t (subst (λ (z : Fl
 
 pub probability_from_zero_to_one : (snr threshold slope : Float) → T (number snr) → T (finite threshold) → T (positive slope) → FromZeroToOne (decode_probability snr threshold slope)
 probability_from_zero_to_one snr threshold slope p q r = from_share (decode_probability snr threshold slope) (probability_share snr threshold slope p q r)
+
+-- what is within its limits is a number, and a slope there is above 0
+limit_ends : T (finite (neg f200)) × T (finite f200) × T (positive eighth) × T (positive f16)
+unfolding of_bits neg
+limit_ends = (tt, tt, tt, tt)
+
+db_finite : (x : Float) → T (ok_db x) → T (finite x)
+db_finite x h = between_limits (neg f200) x f200 limit_ends.0 limit_ends.1 (and_l (le (neg f200) x) (le x f200) h) (and_r (le (neg f200) x) (le x f200) h)
+
+slope_positive : (x : Float) → T (ok_slope x) → T (positive x)
+slope_positive x h = between eighth x f16 limit_ends.2 limit_ends.3 (and_l (le eighth x) (le x f16) h) (and_r (le eighth x) (le x f16) h)
+
+pub accepted_from_zero_to_one : (snr threshold slope : Float) → ok_arguments snr threshold slope ≡ true → FromZeroToOne (decode_probability snr threshold slope)
+accepted_from_zero_to_one snr threshold slope e =
+    let ok = T_from_true (ok_arguments snr threshold slope) e in
+    let two = and_l (ok_db snr && ok_db threshold) (ok_slope slope) ok in
+    probability_from_zero_to_one snr threshold slope
+    (finite_number snr (db_finite snr (and_l (ok_db snr) (ok_db threshold) two))) (db_finite threshold (and_r (ok_db snr) (ok_db threshold) two))
+    (slope_positive slope (and_r (ok_db snr && ok_db threshold) (ok_slope slope) ok))

@@ -41,3 +41,8 @@ probability snr threshold slope = cond (ok_arguments snr threshold slope) (Ok (d
 -- "It lies from 0 to 1." So it is no NaN
 abbrev pub FromZeroToOne : Float → Type 0
 FromZeroToOne p = T (le f0 p) × T (le p f1)
+
+-- and so does the number that is answered; a refusal has none
+abbrev pub AnswersFromZeroToOne : Result Float Refusal → Type 0
+AnswersFromZeroToOne (Ok p) = FromZeroToOne p
+AnswersFromZeroToOne (Err why) = Unit

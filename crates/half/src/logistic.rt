@@ -1,6 +1,6 @@
 // The exponential, and the logistic: the chance that a frame decodes.
 ghost use Rattle.std.specs.Prelude.{◌≡◌};
-ghost use Rattle.half.specs.Logistic.{exp, decode_probability, ok_arguments, probability};
+ghost use Rattle.half.specs.Logistic.{exp, decode_probability, ok_arguments, probability, AnswersFromZeroToOne};
 
 use crate::power::half;
 use limits::refusal::Refusal;
@@ -40,10 +40,11 @@ fn ok_arguments(snr_db: f64, threshold_db: f64, slope_db: f64) -> bool
     ok_db(snr_db) && ok_db(threshold_db) && ok_slope(slope_db)
 }
 
-// The chance that a frame decodes; refused (8) where an argument is outside its limits.
+// The chance that a frame decodes, from 0 to 1; refused (8) where an argument is outside its limits.
 #[tactic(auto, unfolding(crate::specs::Logistic::probability))]
 pub fn decode_probability(snr_db: f64, threshold_db: f64, slope_db: f64) -> Result<f64, Refusal>
-    ensures { result ≡ probability snr_db threshold_db slope_db }
+    ensures value { result ≡ probability snr_db threshold_db slope_db }
+    ensures from_zero_to_one { AnswersFromZeroToOne result }
 {
     if ok_arguments(snr_db, threshold_db, slope_db) {
         Ok(logistic(snr_db, threshold_db, slope_db))

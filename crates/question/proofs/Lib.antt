@@ -6,4 +6,4 @@ mod Numbers
 pub mod Pairs
 pub mod Events
 pub mod Held
-mod Starting
+pub mod Starting

@@ -1,3 +1,4 @@
 pub mod Calls
 pub mod Reads
+pub mod Fresh
 pub mod bridges

@@ -31,7 +31,7 @@ use Rattle.rate.specs.declared.types.RateController.{RateController}
 use Rattle.rate.specs.declared.types.Answer.{Answer}
 use Rattle.rules.specs.Check.{frame_verdict, first_bad}
 use Rattle.rate.specs.Calls.{Call, Frames, Echo, Silence, Snr, Seed, Price, Family, verdict, accepted, step, after}
-use Rattle.waiting.specs.Waiting.{Fresh, fresh}
+use Rattle.rate.specs.Fresh.{Fresh, fresh}
 use Rattle.rate.proofs.Stepping.{by_verdict}
 
 pub record Sound (k : RateController) : Type 0 where

@@ -7,6 +7,7 @@ use mathlib.Core.Logic.{◌⊎◌, inl, inr}
 use Prim.Native.Nat.{ℕ, suc, ◌+◌, ◌<◌, ◌≤◌}
 use native.Mathlib.Omega.{arith}
 use lib.Dec.{T}
+use lib.Ieee.Fits.{and_l}
 use Rattle.limits.specs.Refusals.{Verdict}
 use Rattle.ladder.specs.declared.types.Rung.{Rung}
 use Rattle.limits.specs.Readings.{Reading}
@@ -172,3 +173,18 @@ marks_tell [] k b e = e
 marks_tell (c ∷ cs) k b e =
     marks_tell cs (step k c).controller ((step k c).begun || b && not (step k c).ended)
     (step_tells k c ∙ ap (λ (w : Bool). (step k c).begun || w && not (step k c).ended) e)
+
+-- ---- *ended* is returned only where a try ran
+accepted_ended : (k : RateController) (c : Call) → T (accepted k c).ended → T (runs k.state.core.trying)
+unfolding accepted
+accepted_ended k (Frames fs snr) h =
+    let d = observe_frames k.table k.prices k.state fs snr in and_l (runs k.state.core.trying) (d.begun || not (runs d.state.core.trying)) h
+accepted_ended k (Echo share snr) h = and_l (runs k.state.core.trying) (not (runs (observe_echo k.table k.prices k.state share snr).core.trying)) h
+accepted_ended k (Silence steps) h = and_l (runs k.state.core.trying) (not (runs (silent k.table k.state steps).core.trying)) h
+accepted_ended k (Snr snr) h = and_l (runs k.state.core.trying) (not (runs k.state.core.trying)) h
+accepted_ended k (Seed snr) h = and_l (runs k.state.core.trying) (not (runs (seed k.table k.prices k.state snr).core.trying)) h
+accepted_ended k (Price floor ordinary gap bursts) h = absurd h
+accepted_ended k (Family own other) h = absurd h
+
+pub step_ended : (k : RateController) (c : Call) → T (step k c).ended → T (runs k.state.core.trying)
+step_ended k c = by_verdict k c (λ (a : Answer). T a.ended → T (runs k.state.core.trying)) (λ e. accepted_ended k c) (λ why h. absurd h)

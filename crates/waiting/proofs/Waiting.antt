@@ -35,11 +35,12 @@ use Rattle.rules.proofs.Calm.{inside_given, decide_waits}
 use Rattle.rate.specs.declared.types.RateController.{RateController}
 use Rattle.rate.specs.declared.types.Answer.{Answer}
 use Rattle.rate.specs.Calls.{Call, Frames, Echo, Silence, Snr, Seed, Price, Family, verdict, accepted, step, after}
-use Rattle.waiting.specs.Waiting.{Fresh, fresh, taken, carried_frames, carries, frame_call, frame_calls, call_airs, air_sent, bound, Quiet, Outbid, Throughout, Demand3}
+use Rattle.rate.specs.Fresh.{Fresh, fresh}
+use Rattle.waiting.specs.Waiting.{taken, carried_frames, carries, frame_call, frame_calls, call_airs, air_sent, bound, Quiet, Outbid, Throughout, Demand3}
 use Rattle.rate.proofs.Stepping.{accepted_says, accepted_step, by_verdict, table_kept}
 use Rattle.waiting.proofs.Deadline.{deadline, not_yet, under_longest}
 use Rattle.waiting.proofs.Sound.{Sound, call_natural, step_sound, after_sound, fresh_sound}
-use Rattle.waiting.proofs.Tries.{tries_end, marks_tell}
+use Rattle.waiting.proofs.Tries.{tries_end, marks_tell, step_ended}
 
 -- ---- any call but a frame call leaves times and waits; none changes the table
 accepted_calm : (k : RateController) (c : Call) → carries (carried_frames c) ≡ false → Untimed k.state (accepted k c).controller.state
@@ -208,6 +209,7 @@ fresh_idle k (fresh c wide e) = refl
 pub waiting : Demand3
 waiting k f calls = record {
   marks_tell = λ before rest e. marks_tell before k false (fresh_idle k f);
+  ended_ran = λ before c rest e h. subst T (marks_tell before k false (fresh_idle k f)) (step_ended (after k before) c h);
   tries_end = λ before c later rest e b n. tries_end (after k before) c later b n;
   runs_are_short = λ before run rest e n h. runs_short (after k before) (after_sound before k (fresh_sound k f)) run n h;
 }

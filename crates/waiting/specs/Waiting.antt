@@ -7,7 +7,6 @@ use Rattle.float.specs.Sum.{total}
 use Rattle.limits.specs.Refusals.{Verdict}
 use Rattle.limits.specs.Readings.{Reading}
 use Rattle.ladder.specs.Types.{rung_at}
-use Rattle.ladder.specs.Tables.{Columns, table_verdict, table_of, for_air}
 use Rattle.account.specs.declared.types.Tariff.{Tariff}
 use Rattle.account.specs.declared.types.State.{State}
 use Rattle.account.specs.Fixed.{longest_wait, wait_tolerance}
@@ -18,11 +17,8 @@ use Rattle.rules.specs.Echo.{usable}
 use Rattle.rules.specs.Booking.{sent, call_air}
 use Rattle.rules.specs.Transmission.{inside}
 use Rattle.rate.specs.declared.types.RateController.{RateController}
-use Rattle.rate.specs.Calls.{Call, Frames, Echo, Silence, Snr, Seed, Price, Family, fresh_controller, step, after}
-
--- "every fresh controller": of any columns that `for_table` does not refuse, with or without `for_air(true)`
-pub data Fresh : RateController → Type 0 where
-  fresh : (c : Columns) (wide : Bool) → table_verdict c ≡ Ok tt → Fresh (fresh_controller (for_air (table_of c) wide))
+use Rattle.rate.specs.Calls.{Call, Frames, Echo, Silence, Snr, Seed, Price, Family, step, after}
+use Rattle.rate.specs.Fresh.{Fresh}
 
 -- ---- frame calls: "accepted call that carries frames, and frame call means such a call"
 abbrev pub taken : Verdict → Bool
@@ -119,6 +115,8 @@ Throughout i p k (c ∷ cs) = Quiet i p k × (T (frame_call k c) → Outbid i k 
 pub record Waiting (k : RateController) (calls : List Call) : Type 0 where
   -- what the controller holds as its running try is the try that the marks tell of
   pub marks_tell : (before rest : List Call) → calls ≡ before ++ rest → runs (after k before).state.core.trying ≡ runs_after false k before
+  -- "Marking *ended* before a try has run .. breaks demands 2 and 3": a call returns *ended* only where a try runs, by the marks before it
+  pub ended_ran : (before : List Call) (c : Call) (rest : List Call) → calls ≡ before ++ c ∷ rest → T (step (after k before) c).ended → T (runs_after false k before)
   -- "A try has ended by the sixth later accepted call that carries frames.": c returns *begun*, and `later` has six such calls
   pub tries_end : (before : List Call) (c : Call) (later rest : List Call) → calls ≡ before ++ c ∷ later ++ rest
       → T (step (after k before) c).begun
