@@ -1,5 +1,5 @@
--- The choice is a place of the front, and a try's rung stands at one: each step moves the place to one that it found among those that are there, or to 0, and tries the
--- rung of a place that is usable. Assumes nothing.
+-- The choice is a place of the front, and a try's rung stands at one: each step moves the place to one that it found among those that are there, or to 0,
+-- and tries the rung of a place that is usable. Assumes nothing.
 use mathlib.Core.Path.{refl}
 use mathlib.Core.Bool.{Bool, not, ◌&&◌}
 use mathlib.Core.List.{List, [], ◌∷◌}

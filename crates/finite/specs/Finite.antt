@@ -1,5 +1,5 @@
--- What holds of every controller that calls can leave: each of its numbers is finite and lies within named bounds, and so does what its steps compare; the choice is a
--- place of the front. So no such comparison meets a NaN, and "v > b" of document 01 is the test "not v <= b" of the Rust. Definitions only.
+-- What holds of every controller that calls can leave: each of its numbers is finite and lies within named bounds, and so does what its steps compare;
+-- the choice is a place of the front. So no such test meets a NaN, and "v > b" of document 01 is the test "not v <= b" of the Rust. Definitions only.
 use Rattle.std.specs.Prelude.{◌≡◌, Bool, not, ◌&&◌, ◌||◌, cond, List, ℕ, suc, ◌<◌, ◌≤◌, T, ltb, Float, Ok, None, Some, Option}
 use Rattle.std.specs.Float.Ieee.{neg, le, lt}
 use Rattle.std.specs.Float.Ieee.Scale.{finite}
