@@ -1,5 +1,5 @@
--- The P rows hold: one theorem over the table. Where a row names its numbers antt computes both sides. Two equal rungs have a worth, and it is at least itself, so each
--- beats the other; one rung has no other. A fresh controller is at place 0 already. Assumes nothing.
+-- The P rows hold: one theorem over the table. Where a row names its numbers antt computes both sides. Two equal rungs have a worth, and it is at least
+-- itself, so each beats the other; one rung has no other. A fresh controller is at place 0 already. Assumes nothing.
 use Rattle.std.specs.Prelude.{◌≡◌, Bool, true, false, ◌&&◌, List, [], ◌∷◌, ℕ, leb, length, T, Float, Ok, Err}
 use mathlib.Core.Path.{refl, ap, ◌∙◌}
 use native.Mathlib.Omega.{arith}

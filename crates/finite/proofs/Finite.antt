@@ -1,8 +1,9 @@
 -- Whatever calls a fresh controller is given, its numbers stay within their bounds: a fresh one has it, and each step keeps it. So every number is finite, and so is
 -- all that is compared. Assumes nothing.
 use mathlib.Core.Path.{◌≡◌}
-use mathlib.Core.Bool.{◌&&◌}
+use mathlib.Core.Bool.{Bool, ◌&&◌}
 use mathlib.Core.List.{List, [], ◌∷◌}
+use Prim.Native.Nat.{◌<◌, ◌≤◌}
 use native.Mathlib.Omega.{arith}
 use lib.Dec.{T, leb}
 use lib.ListN.{length}
@@ -17,7 +18,9 @@ use Rattle.limits.proofs.Verdicts.{or_else_lem, unless_not}
 use Rattle.limits.specs.Readings.{Reading, ok_snr, ok_limit}
 use Rattle.ladder.specs.declared.types.Table.{Table}
 use Rattle.ladder.specs.Lists.{every}
-use Rattle.ladder.specs.Types.{row}
+use Rattle.ladder.specs.Types.{row, place_count}
+use Rattle.ladder.specs.Tables.{Columns, table_verdict, front_of_columns, table_of, for_air}
+use Rattle.ladder.proofs.Accepted.{accepted_columns}
 use Rattle.ladder.proofs.Entries.{All, all_replicate}
 use Rattle.account.specs.declared.types.Account.{Account}
 use Rattle.account.specs.declared.types.Tariff.{Tariff}
@@ -35,17 +38,19 @@ use Rattle.rate.specs.Calls.{Call, Frames, Echo, Silence, Snr, Seed, Price, Fami
 use Rattle.rate.proofs.Stepping.{by_verdict}
 use Rattle.rate.specs.Fresh.{Fresh, fresh}
 use Rattle.waiting.proofs.Sound.{Sound, step_sound, fresh_sound}
-use Rattle.finite.specs.Finite.{longest_time, Lies, LiesIn, TableLies, TariffLies, AccountLies, StateLies, FiniteAt, Finite, AlwaysFinite}
+use Rattle.finite.specs.Finite.{longest_time, Lies, LiesIn, TableLies, TariffLies, AccountLies, StateLies, OnFront, FiniteAt, Finite, AlwaysFinite}
 use Rattle.finite.proofs.Ranges.{Range, ◌to◌, differences, difference_in, In, bounded, in_finite}
 use Rattle.finite.proofs.Bounds.{decibels, air_times, account_bytes, account_air, account_frames, lengths, shares, margins, offsets, times, TableIn, TariffIn, AccountIn, Held, all_any, made_in}
 use Rattle.finite.proofs.Values.{no_account_in, compared}
 use Rattle.finite.proofs.Booking.{FrameIn, frames_in_lem, zero_time}
+use Rattle.finite.proofs.Fronts.{snr_stands, echo_stands, seed_stands, silent_stands, judging_stands, inside_stands, frames_stand}
 use Rattle.finite.proofs.Steps.{wait_in, snr_held, echo_held, seed_held, judging_held, inside_held, frames_held}
 
 record Kept (k : RateController) : Type 0 where
   table : TableIn k.table
   tariff : TariffIn k.prices.tariff
   state : Held k.state
+  front : OnFront k.table k.state.core
 
 -- ---- what is accepted
 frames_ok : (t : Table) (fs : List Frame) (snr : Reading) → verdict t (Frames fs snr) ≡ Ok tt → All FrameIn fs × T (ok_snr snr)
@@ -57,18 +62,19 @@ frames_ok t fs snr e =
     (frames_in_lem t fs b.0, unless_not (ok_snr snr) OutsideLimits b.1)
 
 -- ---- every step keeps it; of the prices' burst counts `Sound` says it already
-keep : (k : RateController) (s : State) → Kept k → Held s → Kept (record { table = k.table; prices = k.prices; state = s })
-keep k s h g = record { table = h.table; tariff = h.tariff; state = g }
+keep : (k : RateController) (s : State) → Kept k → Held s → OnFront k.table s.core → Kept (record { table = k.table; prices = k.prices; state = s })
+keep k s h g f = record { table = h.table; tariff = h.tariff; state = g; front = f }
 
 accepted_kept : (k : RateController) (c : Call) → verdict k.table c ≡ Ok tt → Kept k → TariffSound (accepted k c).controller.prices.tariff → Kept (accepted k c).controller
 unfolding verdict accepted silent observe_echo
-accepted_kept k (Frames fs snr) e h b = let ok = frames_ok k.table fs snr e in keep k _ h (frames_held k.table k.prices h.table h.tariff k.state fs snr ok.0 ok.1 h.state)
+accepted_kept k (Frames fs snr) e h b = let ok = frames_ok k.table fs snr e in keep k _ h (frames_held k.table k.prices h.table h.tariff k.state fs snr ok.0 ok.1 h.state) (frames_stand k.table k.prices k.state fs snr h.front)
 accepted_kept k (Echo None snr) e h b = h
 accepted_kept k (Echo (Some x) snr) e h b =
     keep k _ h (echo_held k.table k.prices k.state x snr (and_l (ok_share x) (ok_db snr) (unless_not (ok_share x && ok_db snr) OutsideLimits e)) h.state)
-accepted_kept k (Silence steps) e h b = keep k _ h h.state
-accepted_kept k (Snr snr) e h b = keep k _ h (snr_held k.state snr (unless_not (ok_snr snr) OutsideLimits e) h.state)
-accepted_kept k (Seed snr) e h b = keep k _ h (seed_held k.table k.prices k.state snr (unless_not (ok_db snr) OutsideLimits e) h.state)
+    (echo_stands k.table k.prices k.state x snr h.front)
+accepted_kept k (Silence steps) e h b = keep k _ h h.state (silent_stands k.table k.prices k.state steps h.front)
+accepted_kept k (Snr snr) e h b = keep k _ h (snr_held k.state snr (unless_not (ok_snr snr) OutsideLimits e) h.state) (snr_stands k.table k.state snr h.front)
+accepted_kept k (Seed snr) e h b = keep k _ h (seed_held k.table k.prices k.state snr (unless_not (ok_db snr) OutsideLimits e) h.state) (seed_stands k.table k.prices k.state snr h.front)
 accepted_kept k (Price floor ordinary gap bursts) e h b =
     let two = ok_length floor && ok_length ordinary in
     let three = two && ok_length gap in
@@ -79,8 +85,9 @@ accepted_kept k (Price floor ordinary gap bursts) e h b =
       table = h.table;
       tariff = record { floor = and_l (ok_length floor) (ok_length ordinary) l; ordinary = and_r (ok_length floor) (ok_length ordinary) l; gap = and_r two (ok_length gap) g; bursts = b };
       state = h.state;
+      front = h.front;
     }
-accepted_kept k (Family own other) e h b = record { table = h.table; tariff = h.tariff; state = h.state }
+accepted_kept k (Family own other) e h b = record { table = h.table; tariff = h.tariff; state = h.state; front = h.front }
 
 step_kept : (k : RateController) (c : Call) → Sound k → Kept k → Kept (step k c).controller
 step_kept k c s h =
@@ -96,6 +103,11 @@ fresh_ends : In lengths f0 × In offsets f0
 unfolding of_bits neg le
 fresh_ends = (tt, tt)
 
+-- a front that is not empty has a place 0
+has_place : (c : Columns) (wide : Bool) → table_verdict c ≡ Ok tt → 0 < place_count (for_air (table_of c) wide)
+unfolding table_of
+has_place c wide e = let n : 1 ≤ length (front_of_columns c) = (accepted_columns c e).front in omega arith
+
 fresh_kept : (k : RateController) → Fresh k → Kept k
 fresh_kept k (fresh c wide e) = record {
   table = made_in c wide e;
@@ -108,6 +120,7 @@ fresh_kept k (fresh c wide e) = record {
     echo = tt;
     offsets = record { floor = fresh_ends.1; ofdm = fresh_ends.1 };
   };
+  front = record { place = has_place c wide e; tried = tt };
 }
 
 -- ---- what lies in one of the ranges is finite
@@ -180,8 +193,9 @@ kept_finite : (k : RateController) → Kept k → Finite k
 kept_finite k h =
     let t = k.table in
     let p = k.prices in
-    let at : (s : State) → Held s → FiniteAt t p s = λ s g. record {
+    let at : (s : State) → Held s → OnFront t s.core → FiniteAt t p s = λ s g f. record {
       state = state_lies s g;
+      front = f;
       seconds = λ r. lies times (wait_s t p.tariff s r) ends.6 (wait_in t p h.table h.tariff s r g);
       due = λ r.
           let w = wait_s t p.tariff s r in
@@ -192,9 +206,9 @@ kept_finite k h =
     record {
       table = table_lies t h.table;
       tariff = tariff_lies p.tariff h.tariff;
-      state = at k.state h.state;
-      judging = λ fs snr n e. let ok = frames_ok t fs snr e in at _ (judging_held t p h.table h.tariff k.state fs snr ok.0 ok.1 h.state n);
-      deciding = λ fs snr e. let ok = frames_ok t fs snr e in at _ (inside_held t p h.table h.tariff k.state fs snr ok.0 ok.1 h.state);
+      state = at k.state h.state h.front;
+      judging = λ fs snr n e. let ok = frames_ok t fs snr e in at _ (judging_held t p h.table h.tariff k.state fs snr ok.0 ok.1 h.state n) (judging_stands t p k.state fs snr h.front n);
+      deciding = λ fs snr e. let ok = frames_ok t fs snr e in at _ (inside_held t p h.table h.tariff k.state fs snr ok.0 ok.1 h.state) (inside_stands t p k.state fs snr h.front);
     }
 
 pub always_finite : AlwaysFinite

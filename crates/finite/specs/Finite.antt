@@ -1,6 +1,6 @@
--- What holds of every controller that calls can leave: each of its numbers is finite and lies within named bounds, and so does each value and price that it compares.
--- So no comparison meets a NaN, and "v > b" of document 01 is the test "not v <= b" of the Rust. Definitions only.
-use Rattle.std.specs.Prelude.{◌≡◌, Bool, not, ◌&&◌, ◌||◌, cond, List, ℕ, suc, ◌≤◌, T, ltb, Float, Ok, None, Some, Option}
+-- What holds of every controller that calls can leave: each of its numbers is finite and lies within named bounds, and so does what its steps compare;
+-- the choice is a place of the front. So no such test meets a NaN, and "v > b" of document 01 is the test "not v <= b" of the Rust. Definitions only.
+use Rattle.std.specs.Prelude.{◌≡◌, Bool, not, ◌&&◌, ◌||◌, cond, List, ℕ, suc, ◌<◌, ◌≤◌, T, ltb, Float, Ok, None, Some, Option}
 use Rattle.std.specs.Float.Ieee.{neg, le, lt}
 use Rattle.std.specs.Float.Ieee.Scale.{finite}
 use Rattle.float.specs.Numbers.{f64, ◌⊕◌, ◌⊖◌, ◌⊗◌, ◌⊘◌, within, f0, f1}
@@ -9,13 +9,14 @@ use Rattle.limits.specs.Values.{f200, f60, milli, ok_db}
 use Rattle.limits.specs.Readings.{Reading}
 use Rattle.ladder.specs.declared.types.Table.{Table}
 use Rattle.ladder.specs.Tables.{prior_margin}
-use Rattle.ladder.specs.Types.{row, rung_at}
+use Rattle.ladder.specs.Types.{row, place_count, rung_at}
 use Rattle.account.specs.declared.types.Account.{Account}
 use Rattle.account.specs.declared.types.Tariff.{Tariff}
 use Rattle.account.specs.declared.types.Prices.{Prices}
+use Rattle.account.specs.declared.types.Core.{Core}
 use Rattle.account.specs.declared.types.State.{State}
 use Rattle.account.specs.Fixed.{slope, longest_wait, least_offset, most_offset, enough_frames, wait_tolerance}
-use Rattle.account.specs.State.{account, since_of, wait_of, choice}
+use Rattle.account.specs.State.{Trying, account, since_of, wait_of, choice}
 use Rattle.account.specs.Price.{offset, prior_p, burst_or, estimate, estimate_at, lossless, priced, value, lossless_price, wait_s}
 use Rattle.rules.specs.declared.types.Frame.{Frame}
 use Rattle.rules.specs.Echo.{usable, observe_snr}
@@ -102,6 +103,16 @@ pub record StateLies (s : State) : Type 0 where
   pub floor_offset : Lies least_offset most_offset s.core.offsets.floor
   pub ofdm_offset : Lies least_offset most_offset s.core.offsets.ofdm
 
+-- the rung of a try, if one runs, is that of a place of the front
+abbrev pub TriedAt : Table → Trying → Type 0
+TriedAt t None = Unit
+TriedAt t (Some y) = (i : ℕ) × (i < place_count t) × (rung_at t i ≡ y.rung.0)
+
+-- and so is the choice
+pub record OnFront (t : Table) (c : Core) : Type 0 where
+  pub place : c.place.0 < place_count t
+  pub tried : TriedAt t c.trying
+
 -- ---- what is computed on the way to what is compared
 -- "d = (SNR - threshold)/slope" of the prior, whose SNR is less offset and margin
 abbrev pub distance : Table → State → ℕ → Float → Float
@@ -158,6 +169,7 @@ pub record Alike (s z : State) : Type 0 where
 -- of one state: its numbers, its waits in seconds, and all that is compared
 pub record FiniteAt (t : Table) (p : Prices) (s : State) : Type 0 where
   pub state : StateLies s
+  pub front : OnFront t s.core
   pub seconds : (r : ℕ) → Lies f0 longest_time (wait_s t p.tariff s r)
   -- "its time >= wait - 1e-9"
   pub due : (r : ℕ) → Lies (neg wait_tolerance) longest_time (wait_s t p.tariff s r ⊖ wait_tolerance)
