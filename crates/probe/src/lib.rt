@@ -6,7 +6,7 @@ ghost use Rattle.std.specs.Prelude.{◌≡◌};
 ghost use Rattle.half.specs.Power.{half};
 ghost use Rattle.half.specs.Logistic.{exp};
 
-// 2^-t by document 01's steps, for every t.
+// Document 01's half-power, which it means for t finite and at least 0; at any other t what the same steps give.
 #[unsafe(no_mangle)]
 pub extern "C" fn rate_half(t: f64) -> f64
     ensures { result ≡ half t }
