@@ -11,11 +11,9 @@ use Rattle.rules.specs.Echo.{observe_snr}
 use Rattle.rules.specs.Tries.{Decided, decided, decide}
 use Rattle.rules.specs.Transmission.{inside, observe_frames}
 use Rattle.rules.specs.declared.pass.Pass.{Pass}
-use Rattle.account.specs.declared.types.Account.{Account}
 use Rattle.rules.specs.declared.accounts.Fades.{Fades}
-use Rattle.rules.specs.bridges.Pass.{Kept, begin_pass, pass_all, booked_accounts, decided_pass}
-use Rattle.rules.specs.bridges.Ageing.{booked_all}
-use Rattle.rules.proofs.Keeping.{books_kept}
+use Rattle.rules.specs.bridges.Pass.{Kept, begin_pass, pass_all, decided_pass}
+use Rattle.rules.specs.bridges.Ageing.{accounts_by}
 use Rattle.rules.proofs.Booked as booked
 use Rattle.rate.specs.Calls.{RateController, with_state, Frames, accepted, done}
 use Rattle.rate.specs.bridges.Replies.{answer_of, done_reply}
@@ -40,12 +38,11 @@ module _ (k : RateController) (fs : List Frame) (snr : Reading) where
 
   -- what the pass gathered, the state once its frames are booked, and what was decided
   -- by factors that were kept
-  pub frames_accepted : (d : Fades) (y : Pass) (b s : State) (begun : Bool) → Kept k.table d → length k.state.accounts ≡ 32 → 0 < length fs
-      → b ≡ record z { accounts = booked_all k.table d fs z.accounts } → y ≡ pass_all k.table z.core (begin_pass z.core) fs → decided s begun ≡ decided_pass k.table k.prices b y
+  pub frames_accepted : (d : Fades) (y : Pass) (b s : State) (begun : Bool) → Kept k.table d → 0 < length fs
+      → b ≡ accounts_by k.table d fs z → y ≡ pass_all k.table z.core (begin_pass z.core) fs → decided s begun ≡ decided_pass k.table k.prices b y
       → answer_of (with_state k s) (done_reply k.state.core.trying s begun) ≡ accepted k (Frames fs snr)
   unfolding accepted
-  frames_accepted d y b s begun kept long more eb ey ed =
-      let q : b ≡ booked_accounts k.table fs z = eb ∙ ap (λ (l : List Account). record z { accounts = l }) (books_kept k.table d fs z.accounts long kept) in
+  frames_accepted d y b s begun kept more eb ey ed =
       let e : decided s begun ≡ observe_frames k.table k.prices k.state fs snr =
-      ed ∙ rw (q, ey) (booked.decided k.table k.prices k.state fs snr) ∙ more_frames k.table k.prices k.state fs snr more in
+      ed ∙ rw (eb, ey) (booked.decided k.table k.prices d kept k.state fs snr) ∙ more_frames k.table k.prices k.state fs snr more in
       ap (λ (x : Decided). done k x.state x.begun) e

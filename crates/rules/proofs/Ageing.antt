@@ -87,7 +87,7 @@ aged_start n by l h =
     ap (λ (k : ℕ). aged_by k 0 by (take n l) ++ drop n l) q ∙ ap (λ (k : ℕ). aged_by n 0 by (take k l) ++ drop k l) (sym (zero-add n)) ∙ aged_slice n 0 by l
 
 -- ---- a frame booked
-module _ (t : Table) (f : Frame) (d : Fades) (l : List Account) (long : length l ≡ 32) (fading : Fading t f.air d) where
+module _ (t : Table) (f : Frame) (d : Fades) (l : List Account) (fading : Fading t f.air d) where
   abbrev all : ℕ
   all = rung_count t
 
@@ -97,26 +97,26 @@ module _ (t : Table) (f : Frame) (d : Fades) (l : List Account) (long : length l
   abbrev booked : List Account
   booked = book_frame all 0 t f l
 
-  aged_length : length s ≡ 32
-  aged_length = ap length (aged_each all 0 d.by l) ∙ each_length (by_factor d.by) no_account all 0 l ∙ long
+  aged_length : length s ≡ length l
+  aged_length = ap length (aged_each all 0 d.by l) ∙ each_length (by_factor d.by) no_account all 0 l
 
-  pub booked_length : length booked ≡ 32
-  booked_length = ap length (books_each all 0 t f l) ∙ each_length (book_one t f) no_account all 0 l ∙ long
+  pub booked_length : length booked ≡ length l
+  booked_length = ap length (books_each all 0 t f l) ∙ each_length (book_one t f) no_account all 0 l
 
-  aged_at : (r : ℕ) → r < all → get_or s r no_account ≡ aged (get_or d.by r f1) (get_or l r no_account)
-  aged_at r h =
+  aged_at : (r : ℕ) → r < all → r < length l → get_or s r no_account ≡ aged (get_or d.by r f1) (get_or l r no_account)
+  aged_at r h k =
       ap (λ (x : List Account). get_or x r no_account) (aged_each all 0 d.by l)
-      ∙ each_at (by_factor d.by) no_account all 0 r l (omega arith) (omega arith) (omega (arith, long))
+      ∙ each_at (by_factor d.by) no_account all 0 r l (omega arith) (omega arith) k
 
   aged_left : (r : ℕ) → all ≤ r → get_or s r no_account ≡ get_or l r no_account
   aged_left r h =
       ap (λ (x : List Account). get_or x r no_account) (aged_each all 0 d.by l)
       ∙ each_other (by_factor d.by) no_account all 0 r l (λ o. omega arith)
 
-  booked_at : (r : ℕ) → r < all → get_or booked r no_account ≡ book_one t f r (get_or l r no_account)
-  booked_at r h =
+  booked_at : (r : ℕ) → r < all → r < length l → get_or booked r no_account ≡ book_one t f r (get_or l r no_account)
+  booked_at r h k =
       ap (λ (x : List Account). get_or x r no_account) (books_each all 0 t f l)
-      ∙ each_at (book_one t f) no_account all 0 r l (omega arith) (omega arith) (omega (arith, long))
+      ∙ each_at (book_one t f) no_account all 0 r l (omega arith) (omega arith) k
 
   booked_left : (r : ℕ) → all ≤ r → get_or booked r no_account ≡ get_or l r no_account
   booked_left r h =
@@ -124,10 +124,10 @@ module _ (t : Table) (f : Frame) (d : Fades) (l : List Account) (long : length l
       ∙ each_other (book_one t f) no_account all 0 r l (λ o. omega arith)
 
   -- another rung than the frame's, or one that is not in use
-  other_at : (r : ℕ) → (r < all → f.rung.0 ≢ r) → get_or s r no_account ≡ get_or booked r no_account
-  other_at r ne =
+  other_at : (r : ℕ) → r < length l → (r < all → f.rung.0 ≢ r) → get_or s r no_account ≡ get_or booked r no_account
+  other_at r k ne =
       elim (dec_lt r all) [
-        | yes o ↦ aged_at r o ∙ ap (λ (x : Float). aged x (get_or l r no_account)) (fading r o) ∙ sym (booked_at r o ∙ rw (ne_eqb f.rung.0 r (ne o)) refl)
+        | yes o ↦ aged_at r o k ∙ ap (λ (x : Float). aged x (get_or l r no_account)) (fading r o) ∙ sym (booked_at r o k ∙ rw (ne_eqb f.rung.0 r (ne o)) refl)
         | no o ↦ aged_left r (omega arith) ∙ sym (booked_left r (omega arith))
       ]
 
@@ -145,17 +145,18 @@ module _ (t : Table) (f : Frame) (d : Fades) (l : List Account) (long : length l
       go : (b : Bool) → b ≡ in_table t r → cond b (set s r own) s ≡ booked
       go false q =
           let h : all ≤ r = ltb-false r all (sym q) in
-          ext_get_or no_account s booked (aged_length ∙ sym booked_length) (λ j k. other_at j (λ o e. omega arith))
+          ext_get_or no_account s booked (aged_length ∙ sym booked_length) (λ j k. other_at j (omega (arith, aged_length)) (λ o e. omega arith))
       go true q =
           let h : r < all = ltb-true r all (sym q) in
           ext_get_or no_account (set s r own) booked (length-set s r own ∙ aged_length ∙ sym booked_length)
           (λ j k.
+          let m : j < length l = omega (arith, k, length-set s r own, aged_length) in
           elim (ℕ_discrete j r) [
             | yes i ↦
                 rw i
-                (get_or-set_same s r own no_account (omega (arith, aged_length))
-                ∙ sym (booked_at r h ∙ rw (eq-eqb r r refl) refl))
-            | no ne ↦ get_or-set_other s r j own no_account ne ∙ other_at j (λ o i. ne (sym i))
+                (get_or-set_same s r own no_account (omega (arith, i, m, aged_length))
+                ∙ sym (booked_at r h (omega (arith, i, m)) ∙ rw (eq-eqb r r refl) refl))
+            | no ne ↦ get_or-set_other s r j own no_account ne ∙ other_at j m (λ o i. ne (sym i))
           ])
 
 -- ---- the code's own form: the accounts in use are aged as a slice

@@ -1,5 +1,5 @@
 -- One pass over the frames gathers what the definitions' passes give each: the fold of the step is the parts of the folds. The sums and counts start where a pass
--- stands, so that each part goes by induction over the frames. Assumes nothing.
+-- stands, so that each part goes by induction over the frames. The accounts are those of the code's own fold, by factors that are kept. Assumes nothing.
 use mathlib.Core.Path.{◌≡◌, refl, sym, ap, ◌∙◌}
 use mathlib.Core.Bool.{Bool, true, false, not, ◌&&◌, ◌||◌, cond, or-false, or_assoc, and-true, and_assoc}
 use mathlib.Core.List.{List, [], ◌∷◌, foldl}
@@ -17,6 +17,7 @@ use Rattle.ladder.specs.declared.types.Rung.{Rung}
 use Rattle.ladder.specs.declared.types.Table.{Table}
 use Rattle.ladder.specs.Lists.{every}
 use Rattle.ladder.specs.Types.{rung, is_floor}
+use Rattle.account.specs.declared.types.Account.{Account}
 use Rattle.account.specs.declared.types.Core.{Core}
 use Rattle.account.specs.declared.types.Offsets.{Offsets}
 use Rattle.account.specs.declared.types.Prices.{Prices}
@@ -24,11 +25,13 @@ use Rattle.account.specs.declared.types.State.{State}
 use Rattle.account.specs.State.{Trying, choice, try_of}
 use Rattle.rules.specs.Lists.{some_of, how_many}
 use Rattle.rules.specs.Echo.{observe_snr}
-use Rattle.rules.specs.Booking.{Frame, at, call_air, offsets_at, offsets_after, ofdm, judge_family, airs, sent, clean_mark, booked}
+use Rattle.rules.specs.Booking.{Frame, at, call_air, offsets_at, offsets_after, book, ofdm, judge_family, airs, sent, clean_mark, booked}
 use Rattle.rules.specs.Tries.{judge_above, own_frames, end_probe, counted, decide}
 use Rattle.rules.specs.bridges.Sets.{in_set}
-use Rattle.rules.specs.bridges.Pass.{Pass, Marks, add_rung, offsets_by, mark_family, mark_choice, family_mark, choice_mark, count_own, begin_pass, here_of, pass_step, pass_all, booked_accounts, finish_pass, judged_pass, decided_pass}
+use Rattle.rules.specs.bridges.Ageing.{accounts_by}
+use Rattle.rules.specs.bridges.Pass.{Fades, Kept, Pass, Marks, add_rung, offsets_by, mark_family, mark_choice, family_mark, choice_mark, count_own, begin_pass, here_of, pass_step, pass_all, booked_accounts, finish_pass, judged_pass, decided_pass}
 use Rattle.rules.specs.Transmission.{judged, inside}
+use Rattle.rules.proofs.Keeping.{books_kept}
 use Rattle.rules.proofs.Set.{adds, none_in, judge_frames}
 use Rattle.rules.proofs.Trying.{judged_keeps_try}
 
@@ -180,10 +183,19 @@ module _ (t : Table) (s : State) (fs : List Frame) where
       go true q = refl
       go false q = refl
 
-  -- the state after it is the one that the definitions book
-  pub pass_books : finish_pass t (booked_accounts t fs s) gather ≡ booked t s fs
+  -- with the accounts booked by the definitions, what it leaves is the state that they book
+  pub rest_booked : finish_pass t (booked_accounts t fs s) gather ≡ booked t s fs
   unfolding finish_pass booked
-  pass_books = rw (offsets_moved, air_summed, family_judged, clean_marked) refl
+  rest_booked = rw (offsets_moved, air_summed, family_judged, clean_marked) refl
+
+-- ---- with the accounts that it leaves itself, by factors that are kept
+module _ (t : Table) (d : Fades) (kept : Kept t d) (s : State) (fs : List Frame) where
+  pub accounts_booked : (accounts_by t d fs s).accounts ≡ book t fs s.accounts
+  accounts_booked = books_kept t d fs s.accounts kept
+
+  -- the state after it is the one that the definitions book
+  pub pass_books : finish_pass t (accounts_by t d fs s) (pass_all t s.core (begin_pass s.core) fs) ≡ booked t s fs
+  pass_books = ap (λ (l : List Account). finish_pass t (record s { accounts = l }) (pass_all t s.core (begin_pass s.core) fs)) accounts_booked ∙ rest_booked t s fs
 
 -- ---- the set of rungs sent
 add_rung_lem : (set q r : ℕ) → r < 32 → in_set (add_rung set q) r ≡ (eqb q r || in_set set r)
@@ -247,12 +259,12 @@ counted_to_3 t p n s (Some y) =
     ]
 
 -- ---- after the pass: judging the set of rungs sent, and counting the try, is judging and counting by the frames
-module _ (t : Table) (p : Prices) (s : State) (fs : List Frame) where
+module _ (t : Table) (p : Prices) (d : Fades) (kept : Kept t d) (s : State) (fs : List Frame) where
   abbrev y : Pass
   y = pass_all t s.core (begin_pass s.core) fs
 
-  pub sent_judged : judged_pass t p (booked_accounts t fs s) y ≡ judged t p s fs
-  sent_judged = judge_frames t p fs _ _ (rungs_sent t s fs) ∙ ap (judge_above 32 0 t p fs) (pass_books t s fs)
+  pub sent_judged : judged_pass t p (accounts_by t d fs s) y ≡ judged t p s fs
+  sent_judged = judge_frames t p fs _ _ (rungs_sent t s fs) ∙ ap (judge_above 32 0 t p fs) (pass_books t d kept s fs)
 
   try_counted : counted t p y.own (judged t p s fs) (judged t p s fs).core.trying ≡ counted t p (own_frames fs (judged t p s fs).core.trying) (judged t p s fs) (judged t p s fs).core.trying
   try_counted =
@@ -261,16 +273,17 @@ module _ (t : Table) (p : Prices) (s : State) (fs : List Frame) where
       ap (λ (n : ℕ). counted t p n b b.core.trying) q ∙ counted_to_3 t p (own_frames fs b.core.trying) b b.core.trying
 
 -- what `decide` is given, by the pass alone: y is what is gathered of the frames, the SNR being smoothed already, and b the state with the sent rungs judged
-pub pass_inside : (t : Table) (p : Prices) (s : State) (fs : List Frame) (snr : Reading) (y : Pass) (b : State)
-    → let z = observe_snr s snr in y ≡ pass_all t z.core (begin_pass z.core) fs → b ≡ judged_pass t p (booked_accounts t fs z) y
+pub pass_inside : (t : Table) (p : Prices) (d : Fades) (kept : Kept t d) (s : State) (fs : List Frame) (snr : Reading) (y : Pass) (b : State)
+    → let z = observe_snr s snr in y ≡ pass_all t z.core (begin_pass z.core) fs → b ≡ judged_pass t p (accounts_by t d fs z) y
     → counted t p y.own b b.core.trying ≡ inside t p s fs snr
 unfolding inside
-pass_inside t p s fs snr y b e d =
+pass_inside t p d kept s fs snr y b e q =
     let z = observe_snr s snr in
-    let q : b ≡ judged t p z fs = d ∙ ap (judged_pass t p (booked_accounts t fs z)) e ∙ sent_judged t p z fs in
-    ap (λ (x : State). counted t p y.own x x.core.trying) q ∙ ap (λ (x : Pass). counted t p x.own (judged t p z fs) (judged t p z fs).core.trying) e ∙ try_counted t p z fs
+    let r : b ≡ judged t p z fs = q ∙ ap (judged_pass t p (accounts_by t d fs z)) e ∙ sent_judged t p d kept z fs in
+    ap (λ (x : State). counted t p y.own x x.core.trying) r ∙ ap (λ (x : Pass). counted t p x.own (judged t p z fs) (judged t p z fs).core.trying) e ∙ try_counted t p d kept z fs
 
 -- so what is decided after the pass is what the rules decide
-pub decided : (t : Table) (p : Prices) (s : State) (fs : List Frame) (snr : Reading) → let z = observe_snr s snr in decided_pass t p (booked_accounts t fs z) (pass_all t z.core (begin_pass z.core) fs) ≡ decide t p (inside t p s fs snr)
+pub decided : (t : Table) (p : Prices) (d : Fades) (kept : Kept t d) (s : State) (fs : List Frame) (snr : Reading)
+    → let z = observe_snr s snr in decided_pass t p (accounts_by t d fs z) (pass_all t z.core (begin_pass z.core) fs) ≡ decide t p (inside t p s fs snr)
 unfolding decided_pass
-decided t p s fs snr = let z = observe_snr s snr in ap (decide t p) (pass_inside t p s fs snr (pass_all t z.core (begin_pass z.core) fs) _ refl refl)
+decided t p d kept s fs snr = let z = observe_snr s snr in ap (decide t p) (pass_inside t p d kept s fs snr (pass_all t z.core (begin_pass z.core) fs) _ refl refl)

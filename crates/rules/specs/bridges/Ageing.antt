@@ -5,6 +5,7 @@ use Rattle.half.specs.Power.{half}
 use Rattle.ladder.specs.declared.types.Table.{Table}
 use Rattle.ladder.specs.Types.{rung_count, in_table}
 use Rattle.account.specs.declared.types.Account.{Account}
+use Rattle.account.specs.declared.types.State.{State}
 use Rattle.account.specs.State.{no_account}
 use Rattle.account.specs.Fixed.{half_life}
 use Rattle.rules.specs.Booking.{Frame, aged, gained}
@@ -25,3 +26,7 @@ booked_by t by f l =
 unfoldable pub booked_all : Table → Fades → List Frame → List Account → List Account
 booked_all t d [] l = l
 booked_all t d (f ∷ fs) l = booked_all t (turned t f.air d) fs (booked_by t (turned t f.air d).by f l)
+
+-- the state that the pass leaves of its accounts: theirs alone are moved, by the factors given
+abbrev pub accounts_by : Table → Fades → List Frame → State → State
+accounts_by t d fs s = record s { accounts = booked_all t d fs s.accounts }
