@@ -10,7 +10,7 @@ use denote.Param.Members.{Mut, Called}
 use Rattle.ladder.specs.Lists.{tabulate}
 
 -- a list that has f at each place
-listed : {A : Type 0} (f : ℕ → A) (n i : ℕ) (l : List A) (d : A) → length l ≡ n → ((k : ℕ) → k < n → get_or l k d ≡ f (i + k)) → l ≡ tabulate n i f
+pub listed : {A : Type 0} (f : ℕ → A) (n i : ℕ) (l : List A) (d : A) → length l ≡ n → ((k : ℕ) → k < n → get_or l k d ≡ f (i + k)) → l ≡ tabulate n i f
 listed f zero i [] d e h = refl
 listed f zero i (x ∷ xs) d e h = absurd (omega arith)
 listed f (suc n) i [] d e h = absurd (omega arith)

@@ -2,12 +2,13 @@
 use mathlib.Core.Path.{◌≡◌, refl, ap, ◌∙◌}
 use mathlib.Core.Bool.{Bool, true, false, not, ◌&&◌}
 use mathlib.Core.List.{List}
-use Prim.Native.Nat.{ℕ, zero, suc, ◌<◌, ◌≤◌}
-use native.Mathlib.Nat.{not-suc-le-zero, le_of_suc-le-suc, zero-add}
+use Prim.Native.Nat.{ℕ, zero, suc, ◌<◌}
+use native.Mathlib.Nat.{zero-add}
 use native.Mathlib.Numerals.{add-one}
 use lib.Dec.{eqb}
 use lib.Ieee.{Float, le}
 use lib.ListN.{length, get_or, take}
+use lib.Seq.{take_at}
 use Rattle.std.specs.List.{list_any, enumerate_from}
 use Rattle.float.specs.Numbers.{f0}
 use Rattle.ladder.specs.Lists.{tabulate, some_from}
@@ -15,11 +16,6 @@ use Rattle.ladder.specs.Front.{worth_at, beats, beaten}
 use Rattle.ladder.specs.bridges.Worths.{Offer, offer_at, offers_of, beats_with, beaten_with}
 use Rattle.ladder.proofs.Ranges.{some_agree}
 use Rattle.ladder.proofs.Tabulating.{length_tabulate, tabulate_at}
-
-take_tabulate : {A : Type 0} (m n i : ℕ) (f : ℕ → A) → m ≤ n → take m (tabulate n i f) ≡ tabulate m i f
-take_tabulate zero n i f h = refl
-take_tabulate (suc m) zero i f h = absurd (not-suc-le-zero h)
-take_tabulate (suc m) (suc n) i f h = rw (take_tabulate m n (suc i) f (le_of_suc-le-suc h)) refl
 
 and_assoc : (a b c : Bool) → (a && (b && c)) ≡ (a && b && c)
 and_assoc true b c = refl
@@ -35,19 +31,25 @@ module _ (thresholds : List Float) (payloads : List ℕ) (times : List Float) wh
   beats_by_worths r o =
       and_assoc (not (eqb o r)) (le (worth_at payloads times r) (worth_at payloads times o)) (le (get_or thresholds o f0) (get_or thresholds r f0))
 
-  -- r is beaten among the first offers, as many as there are rungs
-  module _ (few : length thresholds ≤ 32) (r : ℕ) (inside : r < length thresholds) (d : Offer) where
-    pub beaten_by_worths : beaten_with (take (length thresholds) (offers_of thresholds payloads times)) r (get_or (take (length thresholds) (offers_of thresholds payloads times)) r d) ≡ beaten thresholds payloads times r
-    unfolding offers_of beaten
+  -- the first offers, as many as there are rungs
+  abbrev taken : List Offer
+  taken = take (length thresholds) (offers_of thresholds payloads times)
+
+  taken_is : taken ≡ tabulate (length thresholds) 0 (offer_at thresholds payloads times)
+  unfolding offers_of
+  taken_is = take_at (tabulate (length thresholds) 0 (offer_at thresholds payloads times)) _ (length thresholds) (length_tabulate (length thresholds) 0 (offer_at thresholds payloads times))
+
+  -- r is beaten among them
+  module _ (r : ℕ) (inside : r < length thresholds) (d : Offer) where
+    pub beaten_by_worths : beaten_with taken r (get_or taken r d) ≡ beaten thresholds payloads times r
+    unfolding beaten
     beaten_by_worths =
         let offer = offer_at thresholds payloads times in
         let n = length thresholds in
-        let all = take_tabulate n 32 0 offer few in
         let mine : get_or (tabulate n 0 offer) r d ≡ offer r = tabulate_at n 0 offer r d inside ∙ ap offer (zero-add r) in
         let test = λ (p : ℕ × Offer). not (eqb p.0 r) && beats_with p.1 (offer r) in
-        rw (all, mine) (any_tabulate test offer n 0 ∙ some_agree (λ k. test (k, offer k)) (beats thresholds payloads times r) n 0 (λ k less. beats_by_worths r k))
+        rw (taken_is, mine) (any_tabulate test offer n 0 ∙ some_agree (λ k. test (k, offer k)) (beats thresholds payloads times r) n 0 (λ k less. beats_by_worths r k))
 
   -- as many offers are compared as there are rungs
-  pub offers_taken : length thresholds ≤ 32 → length (take (length thresholds) (offers_of thresholds payloads times)) ≡ length thresholds
-  unfolding offers_of
-  offers_taken few = rw (take_tabulate (length thresholds) 32 0 (offer_at thresholds payloads times) few) (length_tabulate (length thresholds) 0 (offer_at thresholds payloads times))
+  pub offers_taken : length taken ≡ length thresholds
+  offers_taken = ap length taken_is ∙ length_tabulate (length thresholds) 0 (offer_at thresholds payloads times)

@@ -1,9 +1,9 @@
 -- A front by worths that are divided once: what `beats` and `beaten` come to where each rung's threshold and worth are at hand. Definitions only.
-use Rattle.std.specs.Prelude.{Bool, not, ◌&&◌, List, ℕ, eqb, get_or, Float}
+use Rattle.std.specs.Prelude.{Bool, not, ◌&&◌, List, ℕ, eqb, get_or, length, Float}
 use Rattle.std.specs.Float.Ieee.{le}
 use Rattle.std.specs.List.{list_any, enumerate_from}
 use Rattle.float.specs.Numbers.{f0}
-use Rattle.ladder.specs.Lists.{tabulate}
+use Rattle.ladder.specs.Lists.{tabulate, filled}
 use Rattle.ladder.specs.Front.{worth_at}
 pub use Rattle.ladder.specs.declared.front.Offer.{Offer}
 
@@ -15,9 +15,12 @@ beats_with o r = le r.worth o.worth && le o.threshold r.threshold
 abbrev pub offer_at : List Float → List ℕ → List Float → ℕ → Offer
 offer_at thresholds payloads times r = record { threshold = get_or thresholds r f0; worth = worth_at payloads times r }
 
--- of each rung, as an array of 32
+abbrev pub no_offer : Offer
+no_offer = record { threshold = f0; worth = f0 }
+
+-- of each rung, as an array of 32, and past the last rung none
 unfoldable pub offers_of : List Float → List ℕ → List Float → List Offer
-offers_of thresholds payloads times = tabulate 32 0 (offer_at thresholds payloads times)
+offers_of thresholds payloads times = filled no_offer (tabulate (length thresholds) 0 (offer_at thresholds payloads times))
 
 -- whether the offer of another rung than r beats that of r
 abbrev pub beaten_with : List Offer → ℕ → Offer → Bool

@@ -1,18 +1,24 @@
--- The closure answers each rung's number: the check does not find by itself what the law of `map` says of every place.
-use Rattle.std.proofs.Common.{rules, ◌≡◌, ◌<◌, sym, ◌∙◌, subst, ap, zero-add, get_or}
-use Rattle.std.proofs.lemmas.Grind.{same_number_lists}
-use Rattle.ladder.proofs.Tabulating.{tabulate_at}
-use Rattle.ladder.specs.Types.{rung}
+-- At the loop's end each number is right; that entries which are each right are the list of them the check does not find.
+use Rattle.std.proofs.Common.{arith, refl, sym, ap, ◌∙◌}
+use lib.ListN.{length-set}
+use native.Mathlib.Nat.{zero-add}
+use Rattle.ladder.proofs.Arrays.{entry_made}
+use Rattle.ladder.proofs.Tabulating.{listed}
 use Rattle.exports.specs.Tables.{number_at, numbers_of}
 use Rattle.exports.proofs.tables.numbers_of.Goals as goal
+
+pub loop-i-init : goal.loop-i-init
+loop-i-init c = (refl, λ r h. absurd (omega (arith, h)))
+
+pub loop-i-preserved : goal.loop-i-preserved
+loop-i-preserved c =
+    let l = c.loop-i in
+    let long = l.invariant.0 in
+    (length-set l.number-items l.i _ ∙ long, entry_made (number_at c.args.rungs.now) 0 l.number-items l.i _ (omega (arith, long)) refl l.invariant.1)
 
 pub returns : goal.returns
 unfolding numbers_of
 returns c =
-    let rungs = c.args.rungs.now in
-    let m = c.map.ensures.items in
-    same_number_lists _ _ m.long (λ k less.
-    let h : k < 32 = subst (λ n. k < n) m.long less in
-    let s = m.at k (rung 0) 0 h in
-    let e : get_or c.map.result k 0 ≡ number_at rungs k = search rules in
-    e ∙ ap (number_at rungs) (sym (zero-add k)) ∙ sym (tabulate_at 32 0 (number_at rungs) k 0 h))
+    let l = c.loop-i in
+    let number = number_at c.args.rungs.now in
+    listed number 32 0 l.number-items 0 l.invariant.0 (λ k h. l.invariant.1 k (omega (arith, h)) ∙ ap number (sym (zero-add k)))
