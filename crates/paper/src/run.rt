@@ -1,7 +1,8 @@
 // The one run of a paper: the loop over a file's events, in place on one player, which leaves the line of each.
 ghost use Rattle.std.specs.Prelude.{◌≡◌, ◌≤◌, length};
 ghost use Rattle.rate.specs.bridges.Replies.{answer_of};
-ghost use Rattle.question.specs.File.{event_count};
+ghost use Rattle.question.specs.File.{event_count, air};
+ghost use Rattle.question.specs.Start.{fresh_for};
 ghost use Rattle.paper.specs.Sheet.{line_of};
 ghost use Rattle.paper.specs.bridges.Said.{said};
 
@@ -38,27 +39,42 @@ const NO_LINE: Line = Ok(Outcome {
     begun: false,
 });
 
+// The player that a file's events are played on. (Not inlined: the tables and controllers that are copied here, some 3 KB each, would stand in the frame
+// of every caller.)
+#[inline(never)]
+fn player_for(file: &[u8]) -> Player
+    ensures { result ≡ fresh_for (air file.now) }
+{
+    Player::new(fresh_for(air(file)))
+}
+
 // The lines of a file's events, one for each place of the slice. (Not by `zip` with the bodies: of what is written through an adapter of `iter_mut` a
 // proof is told nothing. The `break` is never taken.)
 #[tactic(auto, using(question::proofs::Events::bodies_next, crate::proofs::Running::filled_start, crate::proofs::Running::filled_next, crate::proofs::Running::filled_end))]
-fn run(file: &[u8], lines: &mut [Line])
-    requires { length lines.old ≡ event_count file.now }
+fn run(file: &[u8], player: &mut Player, lines: &mut [Line])
+    requires fresh { player.old ≡ fresh_for (air file.now) }
+    requires places { length lines.old ≡ event_count file.now }
     ensures { lines.new ≡ said file.now }
 {
-    let mut player = Player::new(fresh_for(air(file)));
     let mut bodies = Reader::new(file);
     for line in lines.iter_mut() {
         let Some(body) = bodies.next() else {
             break;
         };
-        let reply = play(&mut player, body);
+        let reply = play(player, body);
         *line = line_of(player.controller(), reply);
     }
 }
 
 // What a function makes of the lines of a file's events, which are run in an array of N. It is lent by `&mut`: an `FnOnce` would not tell what it left
-// behind a slice that it captured.
-fn read_in<const N: usize, R, F: FnMut(&[Line]) -> R>(file: &[u8], read: &mut F) -> R
+// behind a slice that it captured. (Not inlined: else a refused file, and a paper of few events, would take the stack of 1,000 lines too.)
+#[inline(never)]
+fn read_in<const N: usize, R, F: FnMut(&[Line]) -> R>(
+    file: &[u8],
+    player: &mut Player,
+    read: &mut F,
+) -> R
+    requires fresh { player.old ≡ fresh_for (air file.now) }
     requires room { event_count file.now ≤ N }
     requires small { N ≤ 1000 }
     requires callable { (p : _) → p.now ≡ said file.now → F.pre read.old p }
@@ -66,7 +82,7 @@ fn read_in<const N: usize, R, F: FnMut(&[Line]) -> R>(file: &[u8], read: &mut F)
 {
     let mut room = [NO_LINE; N];
     let lines = &mut room[..event_count(file) as usize];
-    run(file, lines);
+    run(file, player, lines);
     read(lines)
 }
 
@@ -76,9 +92,11 @@ pub(crate) fn with_lines<R, F: FnMut(&[Line]) -> R>(file: &[u8], read: &mut F) -
     requires callable { (p : _) → p.now ≡ said file.now → F.pre read.old p }
     ensures { (p : _) × (p.now ≡ said file.now) × F.step read.old p result read.new }
 {
+    let mut player = player_for(file);
+    let p = &mut player;
     match event_count(file) {
-        0..=50 => read_in::<50, _, _>(file, read),
-        51..=250 => read_in::<250, _, _>(file, read),
-        _ => read_in::<1000, _, _>(file, read),
+        0..=50 => read_in::<50, _, _>(file, p, read),
+        51..=250 => read_in::<250, _, _>(file, p, read),
+        _ => read_in::<1000, _, _>(file, p, read),
     }
 }

@@ -135,7 +135,8 @@ fn frame_at(body: &[u8], i: usize) -> Frame
     frames.get(i).map_or(NO_FRAME, |frame| frame_of(frame))
 }
 
-// The first N frames of a body of frames, and past the last no frames.
+// The first N frames of a body of frames, and past the last no frames. (Inlined, so that the array is made where it stays, and not copied there.)
+#[inline(always)]
 pub fn frames_of<const N: usize>(body: &[u8]) -> [Frame; N]
     ensures { result ≡ first_of N no_frame (frames_in body.now) }
 {

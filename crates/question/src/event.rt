@@ -17,7 +17,8 @@ use rate::player::Player;
 use rate::types::{Answer, RateController, Reply};
 
 // The call of a body of at most N frames. (Here and in `prices_event` what a body holds is made an array with its count beside, since a call takes a slice
-// of its frames, or of its burst counts, and the library allocates nothing.)
+// of its frames, or of its burst counts, and the library allocates nothing. Not inlined: else the stack of 256 frames would be taken where one is sent.)
+#[inline(never)]
 #[tactic(auto, using(crate::proofs::Bodies::length_frames, crate::proofs::Held::all_held))]
 fn observe_in<const N: usize>(p: &mut Player, body: &[u8]) -> Reply
     requires room { frame_count body.now ≤ N }
@@ -28,7 +29,8 @@ fn observe_in<const N: usize>(p: &mut Player, body: &[u8]) -> Reply
     p.observe_frames(&frames[..frame_count(body)], reading_of(past(body, 1)))
 }
 
-// Kind 1. Refused: 6, 7, 8. A transmission mostly has one frame, and a short array is sooner made.
+// Kind 1. Refused: 6, 7, 8. A transmission mostly has one frame, and a short array is sooner made: none has over twice the places that are read, but for
+// that of 16.
 #[tactic(auto, using(crate::proofs::Bodies::length_frames, crate::proofs::Held::many_frames))]
 fn frames_event(p: &mut Player, body: &[u8]) -> Reply
     ensures { answer_of p.new result ≡ step p.old (Frames (frames_in body.now) (reading_of (drop 1 body.now))) }
@@ -36,7 +38,10 @@ fn frames_event(p: &mut Player, body: &[u8]) -> Reply
     match frame_count(body) {
         0..=1 => observe_in::<1>(p, body),
         2..=16 => observe_in::<16>(p, body),
-        17..=256 => observe_in::<256>(p, body),
+        17..=32 => observe_in::<32>(p, body),
+        33..=64 => observe_in::<64>(p, body),
+        65..=128 => observe_in::<128>(p, body),
+        129..=256 => observe_in::<256>(p, body),
         _ => Err(Refusal::TooManyFrames),
     }
 }
