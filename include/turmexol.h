@@ -48,8 +48,9 @@ enum turmexol_refusal {
    and a refused event's line is shorter. 1,000 lines have 13,000 such bytes, and the numbers 1 to 1,000 have 2,893 digits. */
 #define TURMEXOL_SHEET_BYTES 15893
 
-/* No call takes more of the stack, with all that it calls. Measured, on x86-64: bindings/c/stack.c saw 44,312 bytes at most, of
-   paper_mark on a sample paper; in the machine code the frames along its deepest way down add up to 44,352, whatever the paper. */
+/* No call takes more of the stack, with all that it calls. Measured, on x86-64: bindings/c/stack.c saw 23,048 bytes at most, of
+   paper_sheet, on the sample papers, and 33,544 on one of 303 events, one of them of 256 frames; in the machine code the frames
+   along its deepest way down, which only a paper of over 250 events and over 128 frames in one of them takes, add up to as much. */
 #define TURMEXOL_STACK 49152
 
 /* The chance that a frame decodes (crate half). 0, and the chance in *p; or minus the number of the refusal
